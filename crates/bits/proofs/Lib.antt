@@ -1,0 +1,4 @@
+pub mod Packs
+pub mod Bytes
+pub mod Columns
+pub mod Units

@@ -1,0 +1,3 @@
+pub mod Shares
+pub mod Words
+pub mod Actions

@@ -1,0 +1,5 @@
+pub mod Linear
+pub mod Ring
+pub mod Fermat
+pub mod Shown
+pub mod Fields

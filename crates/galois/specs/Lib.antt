@@ -1,0 +1,3 @@
+pub mod Arith
+pub mod Gf
+pub mod Bit

@@ -1,0 +1,4 @@
+pub mod Marks
+pub mod Repeats
+pub mod Horner
+pub mod Lawful

@@ -1,0 +1,4 @@
+pub mod Checks
+pub mod Keys
+pub mod Marks
+pub mod Loading

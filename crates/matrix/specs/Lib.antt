@@ -1,0 +1,4 @@
+pub mod Matrix
+pub mod Search
+pub mod Steps
+pub mod Words

@@ -1,0 +1,3 @@
+pub mod Known
+pub mod Related
+pub mod Sets

@@ -1,0 +1,5 @@
+pub mod State
+pub mod Faults
+pub mod Table
+pub mod Frames
+pub mod Answers

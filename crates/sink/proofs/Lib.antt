@@ -1,0 +1,4 @@
+pub mod Stores
+pub mod Rows
+pub mod Books
+pub mod Keys

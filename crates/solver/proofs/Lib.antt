@@ -1,0 +1,3 @@
+pub mod Grid
+pub mod Loops
+pub mod Joins
