@@ -1,6 +1,8 @@
 // Packed bit vectors: bit i of a vector is bit i mod 8, lowest first, of byte i / 8.
 // Every call works byte by byte, is defined for memories of any length (a byte past the end counts
 // as 0), and writes pad bits as 0. What matrices the bytes mean is told by the crates above.
+#![tactic(auto)]
+
 ghost use Rattle.std.specs.Prelude.{◌≡◌, ℕ, ◌+◌, ◌-◌, ◌*◌, ◌/◌, ◌%◌, ◌^◌, ◌<◌, ◌≤◌, min, false, not, length, if◌then◌else◌, ◌==◌, bit_and, bit_xor, nat_eq, slice_index};
 ghost use Rattle.galois.specs.Bit.{both};
 ghost use Rattle.matrix.specs.Matrix.{sum, delta};

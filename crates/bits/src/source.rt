@@ -15,7 +15,7 @@ pub trait BitSource {
 
 // Bit i of a vector of n bits, 0 past its end.
 fn padded<B: BitSource>(b: &B, n: usize, i: usize) -> u8
-    ensures value { result ≡ pad_bit n (vector b.now) i }
+    ensures value { result ≡ pad_bit n (B.vector b.now) i }
     ensures small { result < 2 }
 {
     if i < n { b.bit(i) } else { 0 }
@@ -23,7 +23,7 @@ fn padded<B: BitSource>(b: &B, n: usize, i: usize) -> u8
 
 fn byte_at<B: BitSource>(b: &B, n: usize, j: usize) -> u8
     requires { 8 * j + 7 < 18446744073709551616 }
-    ensures { result ≡ byte_at n (vector b.now) j }
+    ensures { result ≡ byte_at n (B.vector b.now) j }
 {
     let b0 = padded(b, n, 8 * j + 0);
     let b1 = padded(b, n, 8 * j + 1);
@@ -38,7 +38,7 @@ fn byte_at<B: BitSource>(b: &B, n: usize, j: usize) -> u8
 
 // Writes the first n bits, packed; memory of another length stays as it is.
 pub fn write_bits<B: BitSource>(b: &B, n: usize, out: &mut [u8])
-    ensures { out.new ≡ (if nat_eq (length out.old) (bytes_for n) then pack n (vector b.now) else out.old) }
+    ensures { out.new ≡ (if nat_eq (length out.old) (bytes_for n) then pack n (B.vector b.now) else out.old) }
 {
     if out.len() != bytes_for(n) {
         return;

@@ -21,7 +21,7 @@ use params::set::ParameterSet;
 
 // Adds y, x y, x^2 y, .. to the words.
 fn add_powers<F: Field>(x: u16, y: u16, words: &mut [u16])
-    ensures { (i : ℕ) → i < length words.old → slice_index words.new i ≡ bit_xor (slice_index words.old i) (scaled width reducer x y i) }
+    ensures { (i : ℕ) → i < length words.old → slice_index words.new i ≡ bit_xor (slice_index words.old i) (scaled F.width F.reducer x y i) }
 {
     let mut power = y;
     for i in 0..words.len() {

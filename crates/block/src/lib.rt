@@ -1,6 +1,8 @@
 // The private check matrix at work: its columns, and its first columns, the check block, as an
 // operator. Every action gives the packed product with the key's check matrix, computed from the key,
 // or a refusal that writes nothing. Loading keys and joining operators is left to other crates.
+#![tactic(auto)]
+
 ghost use Rattle.goppa.specs.Loading.{check_matrix};
 ghost use Rattle.block.specs.Slots.{rows_of, sizes_of, sizes-bounded, check-bits};
 

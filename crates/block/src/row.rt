@@ -49,7 +49,7 @@ fn take_words(v: &[u8], m: usize, words: &mut [u16])
 fn advance<F: Field>(xs: &[u16], word: u16, powers: &mut [u16], sums: &mut [u16])
     requires lanes { (length powers.old ≡ length xs.now) × (length sums.old ≡ length xs.now) }
     ensures sums { (k : ℕ) → k < length xs.now → slice_index sums.new k ≡ bit_xor (slice_index sums.old k) (bit_and word (slice_index powers.old k)) }
-    ensures powers { (k : ℕ) → k < length xs.now → slice_index powers.new k ≡ times width reducer (slice_index xs.now k) (slice_index powers.old k) }
+    ensures powers { (k : ℕ) → k < length xs.now → slice_index powers.new k ≡ times F.width F.reducer (slice_index xs.now k) (slice_index powers.old k) }
 {
     for j in 0..xs.len() {
         sums[j] ^= word & powers[j];
@@ -60,7 +60,7 @@ fn advance<F: Field>(xs: &[u16], word: u16, powers: &mut [u16], sums: &mut [u16]
 // The words against y, x y, x^2 y, .. for each x of xs and its y in powers.
 fn cross<F: Field>(xs: &[u16], words: &[u16], powers: &mut [u16], sums: &mut [u16])
     requires lanes { (length powers.old ≡ length xs.now) × (length sums.old ≡ length xs.now) }
-    ensures { (k : ℕ) → k < length xs.now → slice_index sums.new k ≡ crossed width reducer (length words.now) words.now (slice_index xs.now k) (slice_index powers.old k) }
+    ensures { (k : ℕ) → k < length xs.now → slice_index sums.new k ≡ crossed F.width F.reducer (length words.now) words.now (slice_index xs.now k) (slice_index powers.old k) }
 {
     sums.fill(0);
     for i in 0..words.len() {

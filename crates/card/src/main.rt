@@ -1,6 +1,8 @@
 // A card on a pipe: it reads frames from standard input and writes each reply to standard output as
 // soon as its frame is complete. At the end of a complete session it writes the packed public key.
 // The key is that of a new slot (practice12), the blinding a stored matrix.
+#![tactic(auto)]
+
 use block::SlotKey;
 use goppa::slot::KeySlot;
 use operator::stored::StoredMatrix;

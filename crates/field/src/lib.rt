@@ -1,6 +1,8 @@
 // The fields: the bits, and the fields of 2^m elements for m = 4, 5, 12 and 13, behind one trait.
 // Every operation is the one of the public definitions modulo the field's polynomial, at every number
 // lent: a number means the element of its low bits. That these make a field is shown by crate galois.
+#![tactic(auto)]
+
 ghost use Rattle.std.specs.Prelude.{◌≡◌, ℕ, ◌+◌, ◌-◌, ◌*◌, ◌/◌, ◌%◌, ◌^◌, ◌<◌, ◌≤◌, eqb};
 ghost use Rattle.std.specs.Int.Bits.{bit_xor};
 ghost use Rattle.galois.specs.Arith.{Arith};

@@ -1,5 +1,7 @@
 // Answers questions on the fields, one to a line: 'M times A B' or 'M inverse A 0', M the width.
 // The questions and the right answers are made by tools/field-table.py, by other means.
+#![tactic(auto)]
+
 use field::{Bit, Field, Gf4, Gf5, Gf12, Gf13};
 use std::io::{BufRead, BufReader};
 

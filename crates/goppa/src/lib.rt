@@ -1,6 +1,8 @@
 // The private key: the check matrix of a Goppa polynomial as a definition, and the key slot.
 // Every slot holds a key of its set, with a support without repeats on which g is not zero; loading
 // takes a key whole, or refuses it and leaves the slot as it was. Crate block makes an operator of it.
+#![tactic(auto)]
+
 ghost use Rattle.std.specs.Prelude.{◌≡◌};
 ghost use Rattle.goppa.specs.Loading.{told_loading};
 ghost use Rattle.goppa.specs.declared.fault.LoadFault.TheVariants.{Set};

@@ -81,8 +81,8 @@ fn first_repeat(bytes: &[u8], t: usize, n: usize) -> usize
 // g(x), from the last coefficient to the first.
 fn value_at<F: Field>(bytes: &[u8], t: usize, x: u16) -> u16
     requires fit { (2 * t ≤ length bytes.now) × (t ≤ 128) }
-    requires small { Elements width t (entry_in bytes.now) }
-    ensures { result ≡ value width reducer t (entry_in bytes.now) x }
+    requires small { Elements F.width t (entry_in bytes.now) }
+    ensures { result ≡ value F.width F.reducer t (entry_in bytes.now) x }
 {
     let mut r: u16 = 1;
     for i in (0..t).rev() {
@@ -94,8 +94,8 @@ fn value_at<F: Field>(bytes: &[u8], t: usize, x: u16) -> u16
 // The first place in the support where g is 0, or n.
 fn first_root<F: Field>(bytes: &[u8], t: usize, n: usize) -> usize
     requires fit { (2 * (t + n) ≤ length bytes.now) × ((t ≤ 128) × (t + n ≤ 8320)) }
-    requires small { Elements width (t + n) (entry_in bytes.now) }
-    ensures { result ≡ least n (root width reducer t (entry_in bytes.now) (support_in t bytes.now)) }
+    requires small { Elements F.width (t + n) (entry_in bytes.now) }
+    ensures { result ≡ least n (root F.width F.reducer t (entry_in bytes.now) (support_in t bytes.now)) }
 {
     for j in 0..n {
         if value_at::<F>(bytes, t, entry(bytes, t + j)) == 0 {
@@ -134,8 +134,8 @@ fn read_entries(bytes: &[u8], at: usize, count: usize, out: &mut [u16])
 // 1 / g(x).
 fn inverse_at<F: Field>(bytes: &[u8], t: usize, x: u16) -> u16
     requires fit { (2 * t ≤ length bytes.now) × (t ≤ 128) }
-    requires small { Elements width t (entry_in bytes.now) }
-    ensures { result ≡ inverse_of width reducer (value width reducer t (entry_in bytes.now) x) }
+    requires small { Elements F.width t (entry_in bytes.now) }
+    ensures { result ≡ inverse_of F.width F.reducer (value F.width F.reducer t (entry_in bytes.now) x) }
 {
     F::invert(value_at::<F>(bytes, t, x))
 }
@@ -143,8 +143,8 @@ fn inverse_at<F: Field>(bytes: &[u8], t: usize, x: u16) -> u16
 // Writes 1 / g at each entry of the support.
 fn invert_values<F: Field>(bytes: &[u8], t: usize, n: usize, out: &mut [u16])
     requires fit { (2 * (t + n) ≤ length bytes.now) × ((t ≤ 128) × ((t + n ≤ 8320) × (n ≤ length out.old))) }
-    requires small { Elements width (t + n) (entry_in bytes.now) }
-    ensures { Inverses width reducer t n (entry_in bytes.now) (support_in t bytes.now) (λ j. slice_index out.new j) }
+    requires small { Elements F.width (t + n) (entry_in bytes.now) }
+    ensures { Inverses F.width F.reducer t n (entry_in bytes.now) (support_in t bytes.now) (λ j. slice_index out.new j) }
 {
     // nothing of an older key stays
     out.fill(0);

@@ -1,4 +1,6 @@
 // A guard over lent memory that writes zeros when it is let go, on every way out.
+#![tactic(auto)]
+
 ghost use Rattle.guard.specs.Zero.{AllZero};
 
 pub fn wipe(bytes: &mut [u8])

@@ -1,6 +1,8 @@
 // What a private key is to a session: its sizes and its check matrix, known by columns and by the
 // row action of the check block. Every key shows that both are those of one matrix of bits; a refused
 // call writes nothing. How a key is held and loaded is told by the crates that implement it.
+#![tactic(auto)]
+
 ghost use Rattle.std.specs.Prelude.{◌≡◌, ◌<◌, ◌≤◌};
 ghost use Rattle.galois.specs.Bit.{bits};
 ghost use Rattle.matrix.specs.Matrix.{Mat, Els};

@@ -1,5 +1,7 @@
 // Loads keys into the key slot, whole and damaged ones, fills sinks and reads them back, and tells
 // what came, one line to a case.
+#![tactic(auto)]
+
 mod practice;
 mod published;
 mod sinks;

@@ -1,5 +1,7 @@
 // Theory of matrices over a field: products, inverses, elimination, the systematic form.
 // It has no code but a function whose contract puts its theorems under the check.
+#![tactic(auto)]
+
 ghost use Rattle.galois.specs.Arith.{Arith};
 ghost use Rattle.matrix.specs.Words.{Algebra, Inverses};
 

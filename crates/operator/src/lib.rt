@@ -1,6 +1,8 @@
 // Operators: an N by N bit matrix M, N from 1 to 1,664, known by its two actions, M v and v M.
 // Every operator shows that both actions are those of one M; a refused action writes nothing.
 // What a matrix is good for, blinding or checking, is told by the crates above.
+#![tactic(auto)]
+
 ghost use Rattle.std.specs.Prelude.{◌≡◌, ℕ, ◌<◌, ◌≤◌, length};
 ghost use Rattle.matrix.specs.Matrix.{Mat};
 ghost use Rattle.operator.specs.Actions.{answer, ColumnAction, RowAction};
@@ -54,11 +56,11 @@ pub fn check_lengths(size: usize, v: &[u8], out: &[u8]) -> Result<(), OperatorFa
 
 // A lent operator is an operator.
 impl<O: Operator> Operator for &O {
-    ghost order = { λ s. O.Operator.order s.now };
+    ghost order = { λ s. O.order s.now };
 
-    ghost matrix = { λ s. O.Operator.matrix s.now };
+    ghost matrix = { λ s. O.matrix s.now };
 
-    ghost bounded = { λ s. O.Operator.bounded s.now };
+    ghost bounded = { λ s. O.bounded s.now };
 
     fn size(&self) -> usize {
         (**self).size()

@@ -23,7 +23,7 @@ pub struct Pair<A: Operator, B: Operator> {
 
 impl<A: Operator, B: Operator> Pair<A, B> {
     pub fn check(first: &A, second: &B) -> Result<(), MakeFault>
-        ensures { result ≡ pair_check (A.Operator.order first.now) (B.Operator.order second.now) }
+        ensures { result ≡ pair_check (A.order first.now) (B.order second.now) }
     {
         let size = second.size();
         if first.size() != size {
@@ -34,11 +34,11 @@ impl<A: Operator, B: Operator> Pair<A, B> {
 }
 
 impl<A: Operator, B: Operator> Operator for Pair<A, B> {
-    ghost order = { λ p. pair_order (A.Operator.order p.first) (B.Operator.order p.second) };
+    ghost order = { λ p. pair_order (A.order p.first) (B.order p.second) };
 
-    ghost matrix = { λ p. pair_matrix (A.Operator.order p.first) (A.Operator.matrix p.first) (B.Operator.order p.second) (B.Operator.matrix p.second) };
+    ghost matrix = { λ p. pair_matrix (A.order p.first) (A.matrix p.first) (B.order p.second) (B.matrix p.second) };
 
-    ghost bounded = { λ p. pair-bounded (A.Operator.order p.first) (B.Operator.order p.second) (A.Operator.bounded p.first) };
+    ghost bounded = { λ p. pair-bounded (A.order p.first) (B.order p.second) (A.bounded p.first) };
 
     fn size(&self) -> usize {
         let size = self.first.size();
@@ -74,9 +74,9 @@ fn chain_columns<A: Operator, B: Operator>(
     middle: &mut [u8],
     out: &mut [u8],
 ) -> Result<(), OperatorFault>
-    requires one { A.Operator.order a.now ≡ B.Operator.order b.now }
-    requires room { length middle.old ≡ bytes_for (A.Operator.order a.now) }
-    ensures acts { ColumnAction (A.Operator.order a.now) (times bits (A.Operator.order a.now) (A.Operator.matrix a.now) (B.Operator.matrix b.now)) v.now out.old out.new result }
+    requires one { A.order a.now ≡ B.order b.now }
+    requires room { length middle.old ≡ bytes_for (A.order a.now) }
+    ensures acts { ColumnAction (A.order a.now) (times bits (A.order a.now) (A.matrix a.now) (B.matrix b.now)) v.now out.old out.new result }
     ensures cleared { AllZero middle.new }
 {
     let guard = Wiped { bytes: middle };
@@ -92,9 +92,9 @@ fn chain_rows<A: Operator, B: Operator>(
     middle: &mut [u8],
     out: &mut [u8],
 ) -> Result<(), OperatorFault>
-    requires one { A.Operator.order a.now ≡ B.Operator.order b.now }
-    requires room { length middle.old ≡ bytes_for (A.Operator.order a.now) }
-    ensures acts { RowAction (A.Operator.order a.now) (times bits (A.Operator.order a.now) (A.Operator.matrix a.now) (B.Operator.matrix b.now)) v.now out.old out.new result }
+    requires one { A.order a.now ≡ B.order b.now }
+    requires room { length middle.old ≡ bytes_for (A.order a.now) }
+    ensures acts { RowAction (A.order a.now) (times bits (A.order a.now) (A.matrix a.now) (B.matrix b.now)) v.now out.old out.new result }
     ensures cleared { AllZero middle.new }
 {
     let guard = Wiped { bytes: middle };

@@ -1,6 +1,8 @@
 // The seven parameter sets, chosen by name.
 // Whoever holds a set may rely on the relations between its numbers: they are part of its type.
 // The field of 2^m elements is crate field; what F(y) is used for is crate maker's.
+#![tactic(auto)]
+
 ghost use Rattle.std.specs.Prelude.{◌≡◌, ◌+◌, ◌-◌, ◌*◌, ◌/◌};
 ghost use Rattle.params.specs.Related.{Related};
 ghost use Rattle.params.specs.Sets.{numbers, numbers_or, named, practice12, told_sets};

@@ -1,5 +1,7 @@
 // Refusals: every layer's fault enum tells by this trait its layer, its number and its place.
 // A fault of a lower layer stays whole inside the fault of the layer above, and tells its own.
+#![tactic(auto)]
+
 ghost use Rattle.std.specs.Prelude.{◌≡◌, ℕ, min};
 ghost use Rattle.refusal.specs.Refusals.{refused};
 ghost use Rattle.refusal.specs.declared.told.Refusal.{Refusal};

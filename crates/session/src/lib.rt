@@ -1,6 +1,8 @@
 // The card's session: it answers frames while it is open, closes when all rows were taken, then publishes.
 // Every call's contract says what it returns, refusals included, and what session, memories and sink then hold.
 // What the calls of a whole run come to is told by crate runs; transport and memory are the caller's.
+#![tactic(auto)]
+
 ghost use Rattle.std.specs.Prelude.{◌≡◌};
 ghost use Rattle.session.specs.Faults.{told};
 ghost use Rattle.session.specs.declared.fault.SessionFault.TheVariants.{Sink, Operator, Column};

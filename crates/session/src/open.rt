@@ -25,10 +25,10 @@ use refusal::Fault;
 
 // v times the blinding, into a.
 fn unblind<O: Operator>(blinding: &O, v: &[u8], a: &mut [u8]) -> Result<(), SessionFault>
-    requires vector { length v.now ≡ bytes_for (order blinding.now) }
-    requires room { length a.old ≡ bytes_for (order blinding.now) }
+    requires vector { length v.now ≡ bytes_for (O.order blinding.now) }
+    requires room { length a.old ≡ bytes_for (O.order blinding.now) }
     ensures result { result ≡ Ok tt }
-    ensures written { a.new ≡ unblinded (order blinding.now) (matrix blinding.now) v.now }
+    ensures written { a.new ≡ unblinded (O.order blinding.now) (O.matrix blinding.now) v.now }
 {
     blinding.row_action(v, a)?;
     Ok(())
@@ -42,12 +42,12 @@ fn row_product<K: Key, O: Operator>(
     a: &mut [u8],
     b: &mut [u8],
 ) -> Result<(), SessionFault>
-    requires order { order blinding.now ≡ (sizes key.now).rows }
-    requires vector { length v.now ≡ bytes_for (sizes key.now).rows }
-    requires room { (length a.old ≡ bytes_for (sizes key.now).rows) × (length b.old ≡ bytes_for (sizes key.now).rows) }
+    requires order { O.order blinding.now ≡ (K.sizes key.now).rows }
+    requires vector { length v.now ≡ bytes_for (K.sizes key.now).rows }
+    requires room { (length a.old ≡ bytes_for (K.sizes key.now).rows) × (length b.old ≡ bytes_for (K.sizes key.now).rows) }
     ensures result { result ≡ Ok tt }
-    ensures first { a.new ≡ unblinded (sizes key.now).rows (matrix blinding.now) v.now }
-    ensures second { b.new ≡ pack (sizes key.now).rows (apply_row bits (sizes key.now).rows (times bits (sizes key.now).rows (matrix blinding.now) (checks key.now)) (bits_of v.now)) }
+    ensures first { a.new ≡ unblinded (K.sizes key.now).rows (O.matrix blinding.now) v.now }
+    ensures second { b.new ≡ pack (K.sizes key.now).rows (apply_row bits (K.sizes key.now).rows (times bits (K.sizes key.now).rows (O.matrix blinding.now) (K.checks key.now)) (bits_of v.now)) }
 {
     unblind(blinding, v, a)?;
     key.row_action(a, b)?;
@@ -62,11 +62,11 @@ fn column_product<K: Key, O: Operator>(
     a: &mut [u8],
     b: &mut [u8],
 ) -> Result<(), SessionFault>
-    requires order { order blinding.now ≡ (sizes key.now).rows }
-    requires at { j < (sizes key.now).rows }
-    requires room { (length a.old ≡ bytes_for (sizes key.now).rows) × (length b.old ≡ bytes_for (sizes key.now).rows) }
+    requires order { O.order blinding.now ≡ (K.sizes key.now).rows }
+    requires at { j < (K.sizes key.now).rows }
+    requires room { (length a.old ≡ bytes_for (K.sizes key.now).rows) × (length b.old ≡ bytes_for (K.sizes key.now).rows) }
     ensures result { result ≡ Ok tt }
-    ensures written { b.new ≡ slice_index_or (blinded (sizes key.now).rows (matrix blinding.now) (checks key.now)) j [] }
+    ensures written { b.new ≡ slice_index_or (blinded (K.sizes key.now).rows (O.matrix blinding.now) (K.checks key.now)) j [] }
 {
     key.column(j, a)?;
     blinding.column_action(a, b)?;
@@ -114,11 +114,11 @@ fn check_row<K: Key, O: Operator>(
     a: &mut [u8],
     b: &mut [u8],
 ) -> Result<(), SessionFault>
-    requires order { order blinding.now ≡ (sizes key.now).rows }
-    requires vector { length s.now ≡ bytes_for (sizes key.now).rows }
-    requires room { (length a.old ≡ bytes_for (sizes key.now).rows) × (length b.old ≡ bytes_for (sizes key.now).rows) }
-    ensures result { result ≡ refused_by (first (unit_lines (sizes key.now).rows (blinded (sizes key.now).rows (matrix blinding.now) (checks key.now)) i s.now)) }
-    ensures first { a.new ≡ unblinded (sizes key.now).rows (matrix blinding.now) s.now }
+    requires order { O.order blinding.now ≡ (K.sizes key.now).rows }
+    requires vector { length s.now ≡ bytes_for (K.sizes key.now).rows }
+    requires room { (length a.old ≡ bytes_for (K.sizes key.now).rows) × (length b.old ≡ bytes_for (K.sizes key.now).rows) }
+    ensures result { result ≡ refused_by (first (unit_lines (K.sizes key.now).rows (blinded (K.sizes key.now).rows (O.matrix blinding.now) (K.checks key.now)) i s.now)) }
+    ensures first { a.new ≡ unblinded (K.sizes key.now).rows (O.matrix blinding.now) s.now }
 {
     row_product(key, blinding, s, a, b)?;
     let n = key.set().rows;
@@ -133,10 +133,10 @@ fn check_combination<K: Key, O: Operator>(
     a: &mut [u8],
     b: &mut [u8],
 ) -> Result<(), SessionFault>
-    requires order { order blinding.now ≡ (sizes key.now).rows }
-    requires vector { length v.now ≡ bytes_for (sizes key.now).rows }
-    requires room { (length a.old ≡ bytes_for (sizes key.now).rows) × (length b.old ≡ bytes_for (sizes key.now).rows) }
-    ensures { result ≡ refused_by (first (combination_lines (sizes key.now).rows (blinded (sizes key.now).rows (matrix blinding.now) (checks key.now)) v.now)) }
+    requires order { O.order blinding.now ≡ (K.sizes key.now).rows }
+    requires vector { length v.now ≡ bytes_for (K.sizes key.now).rows }
+    requires room { (length a.old ≡ bytes_for (K.sizes key.now).rows) × (length b.old ≡ bytes_for (K.sizes key.now).rows) }
+    ensures { result ≡ refused_by (first (combination_lines (K.sizes key.now).rows (blinded (K.sizes key.now).rows (O.matrix blinding.now) (K.checks key.now)) v.now)) }
 {
     let n = key.set().rows;
     check_some(v, n)?;
@@ -171,7 +171,7 @@ fn refuse(reply: &mut [u8], fault: SessionFault) -> Answer
 impl Open {
     // A session for a key; every key has one.
     pub fn new<K: Key>(key: &K) -> Open
-        ensures set { result.set ≡ sizes key.now }
+        ensures set { result.set ≡ K.sizes key.now }
         ensures phase { result.phase ≡ Receiving }
         ensures rows { result.rows ≡ 0 }
     {
@@ -228,12 +228,12 @@ impl Open {
         working: &mut [u8],
         reply: &mut [u8],
     ) -> Result<usize, SessionFault>
-        requires set { (self.now.set.rows ≡ (sizes key.now).rows) × (index < self.now.set.rows) }
-        requires order { order blinding.now ≡ (sizes key.now).rows }
+        requires set { (self.now.set.rows ≡ (K.sizes key.now).rows) × (index < self.now.set.rows) }
+        requires order { O.order blinding.now ≡ (K.sizes key.now).rows }
         requires working { 2 * bytes_for self.now.set.rows ≤ length working.old }
         requires reply { bytes_for self.now.set.rows + 3 ≤ length reply.old }
-        ensures result { result ≡ Ok (length (column_reply (blinded (sizes key.now).rows (matrix blinding.now) (checks key.now)) index)) }
-        ensures bytes { reply.new ≡ laid (column_reply (blinded (sizes key.now).rows (matrix blinding.now) (checks key.now)) index) reply.old }
+        ensures result { result ≡ Ok (length (column_reply (blinded (K.sizes key.now).rows (O.matrix blinding.now) (K.checks key.now)) index)) }
+        ensures bytes { reply.new ≡ laid (column_reply (blinded (K.sizes key.now).rows (O.matrix blinding.now) (K.checks key.now)) index) reply.old }
     {
         let l = bytes_for(self.set.rows);
         let (a, rest) = working.split_at_mut(l);
@@ -252,13 +252,13 @@ impl Open {
         working: &mut [u8],
         reply: &mut [u8],
     ) -> Result<usize, SessionFault>
-        requires set { (self.old.set.rows ≡ (sizes key.now).rows) × (self.old.phase ≡ Receiving) }
-        requires order { order blinding.now ≡ (sizes key.now).rows }
+        requires set { (self.old.set.rows ≡ (K.sizes key.now).rows) × (self.old.phase ≡ Receiving) }
+        requires order { O.order blinding.now ≡ (K.sizes key.now).rows }
         requires vector { length s.now ≡ bytes_for self.old.set.rows }
         requires inverse { length inverse.old ≡ self.old.set.rows * bytes_for self.old.set.rows }
         requires working { 2 * bytes_for self.old.set.rows ≤ length working.old }
         requires reply { bytes_for self.old.set.rows + 3 ≤ length reply.old }
-        ensures done { Stepped self.old.set.rows (matrix blinding.now) (unit_lines self.old.set.rows (blinded (sizes key.now).rows (matrix blinding.now) (checks key.now)) self.old.rows s.now) (row_reply self.old.rows) 0 self.old.rows inverse.old s.now reply.old result (phase_number self.new.phase) self.new.rows inverse.new reply.new }
+        ensures done { Stepped self.old.set.rows (O.matrix blinding.now) (unit_lines self.old.set.rows (blinded (K.sizes key.now).rows (O.matrix blinding.now) (K.checks key.now)) self.old.rows s.now) (row_reply self.old.rows) 0 self.old.rows inverse.old s.now reply.old result (phase_number self.new.phase) self.new.rows inverse.new reply.new }
         ensures set { self.new.set ≡ self.old.set }
     {
         let n = self.set.rows;
@@ -290,12 +290,12 @@ impl Open {
         working: &mut [u8],
         reply: &mut [u8],
     ) -> Result<usize, SessionFault>
-        requires set { (self.old.set.rows ≡ (sizes key.now).rows) × (self.old.phase ≡ Receiving) }
-        requires order { order blinding.now ≡ (sizes key.now).rows }
+        requires set { (self.old.set.rows ≡ (K.sizes key.now).rows) × (self.old.phase ≡ Receiving) }
+        requires order { O.order blinding.now ≡ (K.sizes key.now).rows }
         requires vector { length v.now ≡ bytes_for self.old.set.rows }
         requires working { 2 * bytes_for self.old.set.rows ≤ length working.old }
         requires reply { bytes_for self.old.set.rows + 3 ≤ length reply.old }
-        ensures done { (inverse s : List ℕ) → Stepped self.old.set.rows (matrix blinding.now) (combination_lines self.old.set.rows (blinded (sizes key.now).rows (matrix blinding.now) (checks key.now)) v.now) combination_reply 0 self.old.rows inverse s reply.old result (phase_number self.new.phase) self.new.rows inverse reply.new }
+        ensures done { (inverse s : List ℕ) → Stepped self.old.set.rows (O.matrix blinding.now) (combination_lines self.old.set.rows (blinded (K.sizes key.now).rows (O.matrix blinding.now) (K.checks key.now)) v.now) combination_reply 0 self.old.rows inverse s reply.old result (phase_number self.new.phase) self.new.rows inverse reply.new }
         ensures set { self.new.set ≡ self.old.set }
     {
         let l = bytes_for(self.set.rows);
@@ -316,12 +316,12 @@ impl Open {
         frame: &[u8],
         reply: &mut [u8],
     ) -> Result<usize, SessionFault>
-        requires set { (self.old.set.rows ≡ (sizes key.now).rows) × (0 < self.old.set.rows) }
-        requires order { order blinding.now ≡ (sizes key.now).rows }
+        requires set { (self.old.set.rows ≡ (K.sizes key.now).rows) × (0 < self.old.set.rows) }
+        requires order { O.order blinding.now ≡ (K.sizes key.now).rows }
         requires inverse { length inverse.old ≡ self.old.set.rows * bytes_for self.old.set.rows }
         requires working { 2 * bytes_for self.old.set.rows ≤ length working.old }
         requires reply { bytes_for self.old.set.rows + 3 ≤ length reply.old }
-        ensures done { Stepped self.old.set.rows (matrix blinding.now) (frame_lines self.old.set.rows (blinded (sizes key.now).rows (matrix blinding.now) (checks key.now)) (phase_number self.old.phase) self.old.rows frame.now) (granted (blinded (sizes key.now).rows (matrix blinding.now) (checks key.now)) (phase_number self.old.phase) self.old.rows frame.now) (phase_number self.old.phase) self.old.rows inverse.old (row_in frame.now) reply.old result (phase_number self.new.phase) self.new.rows inverse.new reply.new }
+        ensures done { Stepped self.old.set.rows (O.matrix blinding.now) (frame_lines self.old.set.rows (blinded (K.sizes key.now).rows (O.matrix blinding.now) (K.checks key.now)) (phase_number self.old.phase) self.old.rows frame.now) (granted (blinded (K.sizes key.now).rows (O.matrix blinding.now) (K.checks key.now)) (phase_number self.old.phase) self.old.rows frame.now) (phase_number self.old.phase) self.old.rows inverse.old (row_in frame.now) reply.old result (phase_number self.new.phase) self.new.rows inverse.new reply.new }
         ensures set { self.new.set ≡ self.old.set }
     {
         let n = self.set.rows;
@@ -353,7 +353,7 @@ impl Open {
         frame: &[u8],
         reply: &mut [u8],
     ) -> Answer
-        ensures done { Answered self.old.set (secret (sizes key.now) (checks key.now) (order blinding.now) (matrix blinding.now)) (phase_number self.old.phase) self.old.rows inverse.old (lent (length inverse.old) (length working.old) (length reply.old)) frame.now reply.old result (phase_number self.new.phase) self.new.rows inverse.new reply.new }
+        ensures done { Answered self.old.set (secret (K.sizes key.now) (K.checks key.now) (O.order blinding.now) (O.matrix blinding.now)) (phase_number self.old.phase) self.old.rows inverse.old (lent (length inverse.old) (length working.old) (length reply.old)) frame.now reply.old result (phase_number self.new.phase) self.new.rows inverse.new reply.new }
         ensures set { self.new.set ≡ self.old.set }
         ensures zero { AllZero working.new }
     {

@@ -21,11 +21,11 @@ fn make_column<K: Key>(
     a: &mut [u8],
     b: &mut [u8],
 ) -> Result<(), SessionFault>
-    requires at { c < (sizes key.now).rest }
-    requires inverse { length inverse.now ≡ (sizes key.now).rows * bytes_for (sizes key.now).rows }
-    requires room { (length a.old ≡ bytes_for (sizes key.now).rows) × (length b.old ≡ bytes_for (sizes key.now).rows) }
+    requires at { c < (K.sizes key.now).rest }
+    requires inverse { length inverse.now ≡ (K.sizes key.now).rows * bytes_for (K.sizes key.now).rows }
+    requires room { (length a.old ≡ bytes_for (K.sizes key.now).rows) × (length b.old ≡ bytes_for (K.sizes key.now).rows) }
     ensures result { result ≡ Ok tt }
-    ensures written { b.new ≡ public_column (sizes key.now).rows (checks key.now) inverse.now c }
+    ensures written { b.new ≡ public_column (K.sizes key.now).rows (K.checks key.now) inverse.now c }
 {
     let n = key.set().rows;
     key.column(n + c, a)?;
@@ -42,7 +42,7 @@ impl Ready {
         working: &mut [u8],
         sink: &mut S,
     ) -> Result<(), SessionFault>
-        ensures done { Published self.old.set (sizes key.now) (checks key.now) self.old.sent inverse.now (length working.old) (store sink.old) (fault_in result) self.new.sent (store sink.new) }
+        ensures done { Published self.old.set (K.sizes key.now) (K.checks key.now) self.old.sent inverse.now (length working.old) (S.store sink.old) (fault_in result) self.new.sent (S.store sink.new) }
         ensures set { self.new.set ≡ self.old.set }
         ensures zero { AllZero working.new }
     {

@@ -1,5 +1,7 @@
 // A card session run through all its refusals on practice12 and practice20: each line tells what is
 // tried, the bytes, and the refusal or ok.
+#![tactic(auto)]
+
 mod cases;
 
 use block::SlotKey;

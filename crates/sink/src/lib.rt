@@ -1,6 +1,8 @@
 // Sinks: stores for the columns of a public key, as a column book or as a packed key.
 // A sink's meaning is its size, its limit and the columns taken; the trait states what taking and
 // reading do to it, refusals included. Who sends the columns is left to others.
+#![tactic(auto)]
+
 ghost use Rattle.std.specs.Prelude.{◌≡◌, length, replicate};
 ghost use Rattle.sink.specs.Faults.{told_sink, told_make};
 ghost use Rattle.sink.specs.Store.{Store, Taking, Reading, make_answer};

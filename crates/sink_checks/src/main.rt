@@ -1,4 +1,6 @@
 // Makes sinks, fills them and reads them back, and tells what came, one line to a case.
+#![tactic(auto)]
+
 use refusal::Fault;
 use refusal::told::Refusal;
 use sink::Sink;

@@ -1,6 +1,8 @@
 // Solving over any field: a square table of lent cells is inverted, or shown to have no inverse.
 // A second table ends as the only inverse, or one row of it as a combination of the first's rows
 // that vanishes; the matrix decides which. Fields are crate field's, the theory is crate matrix's.
+#![tactic(auto)]
+
 ghost use Rattle.std.specs.Prelude.{◌≡◌, ℕ, ◌+◌, ◌*◌, ◌^◌, ◌<◌, ◌≤◌, length, ◌≢◌, slice_index_or};
 ghost use Rattle.matrix.specs.Matrix.{Mat, Same, delta, add_row, scale_row, swap_rows};
 ghost use Rattle.matrix.specs.Steps.{State, Clearing};
@@ -58,7 +60,7 @@ impl<'a, F: Field> Table<'a, F> {
     pub fn solve(&mut self, second: &mut Table<'_, F>) -> Result<Solved, SolveFault>
         ensures sizes { (self.new.size ≡ self.old.size) × (second.new.size ≡ second.old.size) }
         ensures same { (self.new.cells.ghost_name ≡ self.old.cells.ghost_name) × (second.new.cells.ghost_name ≡ second.old.cells.ghost_name) }
-        ensures answer { Answer arith width number self.old.size second.old.size self.old.cells.now second.old.cells.now self.new.cells.now second.new.cells.now result }
+        ensures answer { Answer F.arith F.width F.number self.old.size second.old.size self.old.cells.now second.old.cells.now self.new.cells.now second.new.cells.now result }
     {
         let n = self.size;
         if n == 0 || n > LARGEST {
@@ -82,9 +84,9 @@ fn eliminate<F: Field>(first: &mut [F], second: &mut [F], n: usize) -> usize
     requires size { (length first.old ≡ n * n) × (length second.old ≡ n * n) }
     requires some { 0 < n }
     requires small { n ≤ limit }
-    ensures whole { n ≤ result → TheInverse arith n (entries width number n first.old) (entries width number n second.new) }
-    ensures short { result < n → Vanishing arith n (entries width number n first.old) (entries width number n second.new) result }
-    ensures clean { Clean width number first.new × Clean width number second.new }
+    ensures whole { n ≤ result → TheInverse F.arith n (entries F.width F.number n first.old) (entries F.width F.number n second.new) }
+    ensures short { result < n → Vanishing F.arith n (entries F.width F.number n first.old) (entries F.width F.number n second.new) result }
+    ensures clean { Clean F.width F.number first.new × Clean F.width F.number second.new }
 {
     make_clean(first);
     make_identity(second, n);
@@ -96,9 +98,9 @@ fn do_columns<F: Field>(first: &mut [F], second: &mut [F], n: usize) -> usize
     requires size { (length first.old ≡ n * n) × (length second.old ≡ n * n) }
     requires some { 0 < n }
     requires small { n ≤ limit }
-    ensures state { (M : Mat) → State arith n M (entries width number n first.old) (entries width number n second.old) 0 0 → State arith n M (entries width number n first.new) (entries width number n second.new) n result }
-    ensures first { Clean width number first.old → Clean width number first.new }
-    ensures second { Clean width number second.old → Clean width number second.new }
+    ensures state { (M : Mat) → State F.arith n M (entries F.width F.number n first.old) (entries F.width F.number n second.old) 0 0 → State F.arith n M (entries F.width F.number n first.new) (entries F.width F.number n second.new) n result }
+    ensures first { Clean F.width F.number first.old → Clean F.width F.number first.new }
+    ensures second { Clean F.width F.number second.old → Clean F.width F.number second.new }
 {
     let mut r = 0;
     for c in 0..n {
@@ -113,9 +115,9 @@ fn do_column<F: Field>(first: &mut [F], second: &mut [F], n: usize, c: usize, r:
     requires small { n ≤ limit }
     requires within { (c < n) × (r ≤ c) }
     ensures most { result ≤ c + 1 }
-    ensures state { (M : Mat) → State arith n M (entries width number n first.old) (entries width number n second.old) c r → State arith n M (entries width number n first.new) (entries width number n second.new) (c + 1) result }
-    ensures first { Clean width number first.old → Clean width number first.new }
-    ensures second { Clean width number second.old → Clean width number second.new }
+    ensures state { (M : Mat) → State F.arith n M (entries F.width F.number n first.old) (entries F.width F.number n second.old) c r → State F.arith n M (entries F.width F.number n first.new) (entries F.width F.number n second.new) (c + 1) result }
+    ensures first { Clean F.width F.number first.old → Clean F.width F.number first.new }
+    ensures second { Clean F.width F.number second.old → Clean F.width F.number second.new }
 {
     let p = find_pivot(first, n, c, r);
     if p < n {
@@ -131,8 +133,8 @@ fn find_pivot<F: Field>(cells: &[F], n: usize, c: usize, r: usize) -> usize
     requires small { n ≤ limit }
     requires within { (c < n) × (r ≤ n) }
     ensures range { (r ≤ result) × (result ≤ n) }
-    ensures passed { (a : ℕ) → r ≤ a → a < result → entries width number n cells.now a c ≡ 0 }
-    ensures found { result < n → entries width number n cells.now result c ≢ 0 }
+    ensures passed { (a : ℕ) → r ≤ a → a < result → entries F.width F.number n cells.now a c ≡ 0 }
+    ensures found { result < n → entries F.width F.number n cells.now result c ≢ 0 }
 {
     for p in r..n {
         if !get(cells, n, p, c).is_zero() {
@@ -147,10 +149,10 @@ fn take_pivot<F: Field>(first: &mut [F], second: &mut [F], n: usize, c: usize, r
     requires size { (length first.old ≡ n * n) × (length second.old ≡ n * n) }
     requires small { n ≤ limit }
     requires within { (c < n) × (r ≤ p) × (p < n) }
-    requires pivot { entries width number n first.old p c ≢ 0 }
-    ensures state { (M : Mat) → State arith n M (entries width number n first.old) (entries width number n second.old) c r → State arith n M (entries width number n first.new) (entries width number n second.new) (c + 1) (r + 1) }
-    ensures first { Clean width number first.old → Clean width number first.new }
-    ensures second { Clean width number second.old → Clean width number second.new }
+    requires pivot { entries F.width F.number n first.old p c ≢ 0 }
+    ensures state { (M : Mat) → State F.arith n M (entries F.width F.number n first.old) (entries F.width F.number n second.old) c r → State F.arith n M (entries F.width F.number n first.new) (entries F.width F.number n second.new) (c + 1) (r + 1) }
+    ensures first { Clean F.width F.number first.old → Clean F.width F.number first.new }
+    ensures second { Clean F.width F.number second.old → Clean F.width F.number second.new }
 {
     swap_both(first, second, n, r, p);
     let v = get(first, n, r, c).inverse();
@@ -163,9 +165,9 @@ fn clear_column<F: Field>(first: &mut [F], second: &mut [F], n: usize, c: usize,
     requires size { (length first.old ≡ n * n) × (length second.old ≡ n * n) }
     requires small { n ≤ limit }
     requires within { (c < n) × (r < n) }
-    ensures state { (M : Mat) → Clearing arith n M (entries width number n first.old) (entries width number n second.old) c r 0 → State arith n M (entries width number n first.new) (entries width number n second.new) (c + 1) (r + 1) }
-    ensures first { Clean width number first.old → Clean width number first.new }
-    ensures second { Clean width number second.old → Clean width number second.new }
+    ensures state { (M : Mat) → Clearing F.arith n M (entries F.width F.number n first.old) (entries F.width F.number n second.old) c r 0 → State F.arith n M (entries F.width F.number n first.new) (entries F.width F.number n second.new) (c + 1) (r + 1) }
+    ensures first { Clean F.width F.number first.old → Clean F.width F.number first.new }
+    ensures second { Clean F.width F.number second.old → Clean F.width F.number second.new }
 {
     for i in 0..n {
         clear_row(first, second, n, c, r, i);
@@ -177,9 +179,9 @@ fn clear_row<F: Field>(first: &mut [F], second: &mut [F], n: usize, c: usize, r:
     requires size { (length first.old ≡ n * n) × (length second.old ≡ n * n) }
     requires small { n ≤ limit }
     requires within { (c < n) × (r < n) × (i < n) }
-    ensures state { (M : Mat) → Clearing arith n M (entries width number n first.old) (entries width number n second.old) c r i → Clearing arith n M (entries width number n first.new) (entries width number n second.new) c r (i + 1) }
-    ensures first { Clean width number first.old → Clean width number first.new }
-    ensures second { Clean width number second.old → Clean width number second.new }
+    ensures state { (M : Mat) → Clearing F.arith n M (entries F.width F.number n first.old) (entries F.width F.number n second.old) c r i → Clearing F.arith n M (entries F.width F.number n first.new) (entries F.width F.number n second.new) c r (i + 1) }
+    ensures first { Clean F.width F.number first.old → Clean F.width F.number first.new }
+    ensures second { Clean F.width F.number second.old → Clean F.width F.number second.new }
 {
     if i == r {
         return;
@@ -196,9 +198,9 @@ fn swap_both<F: Field>(first: &mut [F], second: &mut [F], n: usize, i: usize, r:
     requires size { (length first.old ≡ n * n) × (length second.old ≡ n * n) }
     requires small { n ≤ limit }
     requires within { (i < n) × (r < n) }
-    ensures first { Same n (entries width number n first.new) (swap_rows i r (entries width number n first.old)) }
-    ensures second { Same n (entries width number n second.new) (swap_rows i r (entries width number n second.old)) }
-    ensures clean { (Clean width number first.old → Clean width number first.new) × (Clean width number second.old → Clean width number second.new) }
+    ensures first { Same n (entries F.width F.number n first.new) (swap_rows i r (entries F.width F.number n first.old)) }
+    ensures second { Same n (entries F.width F.number n second.new) (swap_rows i r (entries F.width F.number n second.old)) }
+    ensures clean { (Clean F.width F.number first.old → Clean F.width F.number first.new) × (Clean F.width F.number second.old → Clean F.width F.number second.new) }
 {
     swap_rows(first, n, i, r);
     swap_rows(second, n, i, r);
@@ -209,9 +211,9 @@ fn scale_both<F: Field>(first: &mut [F], second: &mut [F], n: usize, i: usize, s
     requires size { (length first.old ≡ n * n) × (length second.old ≡ n * n) }
     requires small { n ≤ limit }
     requires within { i < n }
-    ensures first { Same n (entries width number n first.new) (scale_row arith i (element width number s) (entries width number n first.old)) }
-    ensures second { Same n (entries width number n second.new) (scale_row arith i (element width number s) (entries width number n second.old)) }
-    ensures clean { (Clean width number first.old → Clean width number first.new) × (Clean width number second.old → Clean width number second.new) }
+    ensures first { Same n (entries F.width F.number n first.new) (scale_row F.arith i (element F.width F.number s) (entries F.width F.number n first.old)) }
+    ensures second { Same n (entries F.width F.number n second.new) (scale_row F.arith i (element F.width F.number s) (entries F.width F.number n second.old)) }
+    ensures clean { (Clean F.width F.number first.old → Clean F.width F.number first.new) × (Clean F.width F.number second.old → Clean F.width F.number second.new) }
 {
     scale_row(first, n, i, s);
     scale_row(second, n, i, s);
@@ -222,9 +224,9 @@ fn add_both<F: Field>(first: &mut [F], second: &mut [F], n: usize, i: usize, r: 
     requires size { (length first.old ≡ n * n) × (length second.old ≡ n * n) }
     requires small { n ≤ limit }
     requires within { (i < n) × (r < n) }
-    ensures first { Same n (entries width number n first.new) (add_row arith i r (element width number s) (entries width number n first.old)) }
-    ensures second { Same n (entries width number n second.new) (add_row arith i r (element width number s) (entries width number n second.old)) }
-    ensures clean { (Clean width number first.old → Clean width number first.new) × (Clean width number second.old → Clean width number second.new) }
+    ensures first { Same n (entries F.width F.number n first.new) (add_row F.arith i r (element F.width F.number s) (entries F.width F.number n first.old)) }
+    ensures second { Same n (entries F.width F.number n second.new) (add_row F.arith i r (element F.width F.number s) (entries F.width F.number n second.old)) }
+    ensures clean { (Clean F.width F.number first.old → Clean F.width F.number first.new) × (Clean F.width F.number second.old → Clean F.width F.number second.new) }
 {
     add_row(first, n, i, r, s);
     add_row(second, n, i, r, s);
@@ -236,8 +238,8 @@ fn add_row<F: Field>(cells: &mut [F], n: usize, i: usize, r: usize, s: F)
     requires size { length cells.old ≡ n * n }
     requires small { n ≤ limit }
     requires within { (i < n) × (r < n) }
-    ensures made { Same n (entries width number n cells.new) (add_row arith i r (element width number s) (entries width number n cells.old)) }
-    ensures clean { Clean width number cells.old → Clean width number cells.new }
+    ensures made { Same n (entries F.width F.number n cells.new) (add_row F.arith i r (element F.width F.number s) (entries F.width F.number n cells.old)) }
+    ensures clean { Clean F.width F.number cells.old → Clean F.width F.number cells.new }
 {
     let mut row = [F::of(0); LARGEST];
     for k in 0..n {
@@ -254,8 +256,8 @@ fn scale_row<F: Field>(cells: &mut [F], n: usize, i: usize, s: F)
     requires size { length cells.old ≡ n * n }
     requires small { n ≤ limit }
     requires within { i < n }
-    ensures made { Same n (entries width number n cells.new) (scale_row arith i (element width number s) (entries width number n cells.old)) }
-    ensures clean { Clean width number cells.old → Clean width number cells.new }
+    ensures made { Same n (entries F.width F.number n cells.new) (scale_row F.arith i (element F.width F.number s) (entries F.width F.number n cells.old)) }
+    ensures clean { Clean F.width F.number cells.old → Clean F.width F.number cells.new }
 {
     for k in 0..n {
         let x = get(cells, n, i, k);
@@ -267,8 +269,8 @@ fn swap_rows<F: Field>(cells: &mut [F], n: usize, i: usize, r: usize)
     requires size { length cells.old ≡ n * n }
     requires small { n ≤ limit }
     requires within { (i < n) × (r < n) }
-    ensures made { Same n (entries width number n cells.new) (swap_rows i r (entries width number n cells.old)) }
-    ensures clean { Clean width number cells.old → Clean width number cells.new }
+    ensures made { Same n (entries F.width F.number n cells.new) (swap_rows i r (entries F.width F.number n cells.old)) }
+    ensures clean { Clean F.width F.number cells.old → Clean F.width F.number cells.new }
 {
     for k in 0..n {
         let x = get(cells, n, i, k);
@@ -281,8 +283,8 @@ fn swap_rows<F: Field>(cells: &mut [F], n: usize, i: usize, r: usize)
 fn make_identity<F: Field>(cells: &mut [F], n: usize)
     requires size { length cells.old ≡ n * n }
     requires small { n ≤ limit }
-    ensures made { Same n (entries width number n cells.new) delta }
-    ensures clean { Clean width number cells.new }
+    ensures made { Same n (entries F.width F.number n cells.new) delta }
+    ensures clean { Clean F.width F.number cells.new }
 {
     make_zero(cells);
     for i in 0..n {
@@ -291,7 +293,7 @@ fn make_identity<F: Field>(cells: &mut [F], n: usize)
 }
 
 fn make_zero<F: Field>(cells: &mut [F])
-    ensures zero { (k : ℕ) (d : F) → k < length cells.new → number (slice_index_or cells.new k d) ≡ 0 }
+    ensures zero { (k : ℕ) (d : F) → k < length cells.new → F.number (slice_index_or cells.new k d) ≡ 0 }
 {
     for x in cells.iter_mut() {
         *x = F::of(0);
@@ -300,8 +302,8 @@ fn make_zero<F: Field>(cells: &mut [F])
 
 // Takes off the bits above the elements.
 fn make_clean<F: Field>(cells: &mut [F])
-    ensures made { (n i j : ℕ) → entries width number n cells.new i j ≡ entries width number n cells.old i j }
-    ensures clean { Clean width number cells.new }
+    ensures made { (n i j : ℕ) → entries F.width F.number n cells.new i j ≡ entries F.width F.number n cells.old i j }
+    ensures clean { Clean F.width F.number cells.new }
 {
     for x in cells.iter_mut() {
         *x = F::of(x.get());
@@ -313,8 +315,8 @@ fn get<F: Field>(cells: &[F], n: usize, i: usize, j: usize) -> F
     requires size { length cells.now ≡ n * n }
     requires small { n ≤ limit }
     requires within { (i < n) × (j < n) }
-    ensures value { element width number result ≡ entries width number n cells.now i j }
-    ensures clean { Clean width number cells.now → number result < 2 ^ width }
+    ensures value { element F.width F.number result ≡ entries F.width F.number n cells.now i j }
+    ensures clean { Clean F.width F.number cells.now → F.number result < 2 ^ F.width }
 {
     cells[i * n + j]
 }
@@ -323,9 +325,9 @@ fn put<F: Field>(cells: &mut [F], n: usize, i: usize, j: usize, x: F)
     requires size { length cells.old ≡ n * n }
     requires small { n ≤ limit }
     requires within { (i < n) × (j < n) }
-    ensures here { entries width number n cells.new i j ≡ element width number x }
-    ensures others { (a b : ℕ) → a < n → b < n → (a ≡ i → b ≢ j) → entries width number n cells.new a b ≡ entries width number n cells.old a b }
-    ensures clean { number x < 2 ^ width → Clean width number cells.old → Clean width number cells.new }
+    ensures here { entries F.width F.number n cells.new i j ≡ element F.width F.number x }
+    ensures others { (a b : ℕ) → a < n → b < n → (a ≡ i → b ≢ j) → entries F.width F.number n cells.new a b ≡ entries F.width F.number n cells.old a b }
+    ensures clean { F.number x < 2 ^ F.width → Clean F.width F.number cells.old → Clean F.width F.number cells.new }
 {
     cells[i * n + j] = x;
 }

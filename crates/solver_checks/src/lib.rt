@@ -1,6 +1,8 @@
 // Examples of solving over bits and over GF(2^m), on lent slices.
 // One call is proved for every field: what the tables then hold is the solver's answer.
 // The tests run it on the practice block, on tables that are refused, and on unclean cells.
+#![tactic(auto)]
+
 ghost use Rattle.std.specs.Prelude.{◌≡◌, ◌<◌, length};
 ghost use Rattle.solver.specs.Answers.{Answer};
 
@@ -9,7 +11,7 @@ use solver::{SolveFault, Solved, Table};
 
 // Solves the n by n table a, with b as the second.
 pub fn solve<F: Field>(a: &mut [F], b: &mut [F], n: usize) -> Result<Solved, SolveFault>
-    ensures { Answer arith width number n n a.old b.old a.new b.new result }
+    ensures { Answer F.arith F.width F.number n n a.old b.old a.new b.new result }
 {
     let mut first = Table::new(a, n);
     let mut second = Table::new(b, n);

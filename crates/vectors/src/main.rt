@@ -1,6 +1,8 @@
 // The published vectors: for each real set the private key is loaded, a session is run to its end,
 // and every byte of the packed public key is compared with the published one.
 // The rows are prepared by solving, the blinding is made here, dense and the same in every run.
+#![tactic(auto)]
+
 use bits::{bytes_for, get_bit, xor_row};
 use block::SlotKey;
 use field::{Bit, Field};

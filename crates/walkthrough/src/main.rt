@@ -1,5 +1,7 @@
 // A card makes a public key, told in plain words and hexadecimal: one session to its end, with wrong
 // frames in between, and one whose blinded matrix has no inverse.
+#![tactic(auto)]
+
 use block::SlotKey;
 use goppa::slot::KeySlot;
 use key::Key;

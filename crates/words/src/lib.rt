@@ -1,5 +1,7 @@
 // Refusals and bytes in words, for programs that talk to people.
 // It promises nothing but text; what a refusal means is fixed by the layer that makes it.
+#![tactic(auto)]
+
 use refusal::told::{Layer, Refusal};
 use std::fmt;
 

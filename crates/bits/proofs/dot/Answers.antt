@@ -28,7 +28,7 @@ returns c =
     ∙ ap (λ m. sum m f) end
     ∙ sym (dot-present (n / 8) c.present-whole.result at rows v (omega arith)) in
     let value : c.parity.result ≡ sum n (λ k. both (bits_from at rows k) (bits_of v k)) =
-    c.parity.ensures ∙ ap₂ (λ x y. sum 8 (bit_of (bit_xor x y))) whole c.dot-tail.ensures ∙ dot-from n at rows v in
+    c.parity.ensures ∙ ap₂ (λ x y. sum 8 (bit_of (bit_xor x y))) whole c.dot_tail.ensures ∙ dot-from n at rows v in
     record {
       value = value;
       small = subst (λ x. x < 2) (sym value) (sum_lt 1 n (λ k. both (bits_from at rows k) (bits_of v k)) (λ k l. omega arith));

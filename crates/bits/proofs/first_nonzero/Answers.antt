@@ -8,4 +8,4 @@ pub returns : goal.returns
 returns c =
     let n = c.args.n in
     let v = c.args.v.now in
-    c.first-wrong.ensures ∙ least-cong n _ _ (λ k l. ap (λ d. not (eqb (bits_of v k) d)) (delta-off n k (λ e. omega arith)))
+    c.first_wrong.ensures ∙ least-cong n _ _ (λ k l. ap (λ d. not (eqb (bits_of v k) d)) (delta-off n k (λ e. omega arith)))

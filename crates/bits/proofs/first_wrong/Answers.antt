@@ -9,5 +9,5 @@ loop-j-preserved c k h =
     let v = c.args.v.now in
     elim (cases_lt k (8 * j)) [
       | inl l ↦ c.loop-j.invariant k l
-      | inr l ↦ right _ _ (byte-right v c.args.i j c.unit-byte.result k (sym c.byte-of.ensures ∙ c.if-byte-of-unit-byte.false) c.unit-byte.ensures l (omega arith))
+      | inr l ↦ right _ _ (byte-right v c.args.i j c.unit_byte.result k (sym c.byte_of.ensures ∙ c.if-byte_of-unit_byte.false) c.unit_byte.ensures l (omega arith))
     ]

@@ -10,20 +10,20 @@ use Rattle.field.proofs.product.Goals as goal
 pub loop-init : goal.loop-init
 unfolding times
 loop-init c =
-    let e = c.low-bits-x.ensures in (
+    let e = c.low_bits-x.ensures in (
       subst (λ (v : ℕ). v < 2 ^ c.args.m) (sym e) (mod-lt c.args.a (pow_pos c.args.m)),
       pow_pos c.args.m,
       ap₂ (λ (k v : ℕ). shifted (times_z c.args.m c.args.f) k v c.args.b) (sub-zero c.args.m) e,
     )
 
-pub times-z-x-requires : goal.times-z-x-requires
-times-z-x-requires c = record { narrow = c.requires.narrow; top = c.requires.top; element = c.loop.invariant.0 }
+pub times_z-x-requires : goal.times_z-x-requires
+times_z-x-requires c = record { narrow = c.requires.narrow; top = c.requires.top; element = c.loop.invariant.0 }
 
 pub loop-preserved : goal.loop-preserved
 loop-preserved c = (
-  c.times-z-x.ensures.element,
+  c.times_z-x.ensures.element,
   xor_lt c.args.m _ _ c.loop.invariant.1 (subst (λ (v : ℕ). v < 2 ^ c.args.m) (sym c.masked-sum.ensures) (digit-below (2 ^ c.args.m) c.loop.y c.loop.x c.loop.invariant.0)),
-  step_sum (times_z c.args.m c.args.f) c.args.m c.loop.counter c.loop.sum c.loop.x c.loop.y c.masked-sum.result c.times-z-x.result _ c.loop-test.true c.loop.invariant.2 c.masked-sum.ensures c.times-z-x.ensures.value,
+  step_sum (times_z c.args.m c.args.f) c.args.m c.loop.counter c.loop.sum c.loop.x c.loop.y c.masked-sum.result c.times_z-x.result _ c.loop-test.true c.loop.invariant.2 c.masked-sum.ensures c.times_z-x.ensures.value,
 )
 
 pub returns : goal.returns

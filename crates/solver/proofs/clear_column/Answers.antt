@@ -3,9 +3,9 @@ use Rattle.solver.proofs.clear_column.Goals as goal
 
 pub loop-i-preserved : goal.loop-i-preserved
 loop-i-preserved g c = (
-  λ M h. c.clear-row.ensures.state M (c.loop-i.invariant.0 M h),
-  λ e. c.clear-row.ensures.first (c.loop-i.invariant.1 e),
-  λ e. c.clear-row.ensures.second (c.loop-i.invariant.2 e),
+  λ M h. c.clear_row.ensures.state M (c.loop-i.invariant.0 M h),
+  λ e. c.clear_row.ensures.first (c.loop-i.invariant.1 e),
+  λ e. c.clear_row.ensures.second (c.loop-i.invariant.2 e),
 )
 
 pub returns : goal.returns

@@ -10,11 +10,11 @@ returns g c =
     record {
       state = λ M h.
           cleared_both f.arith n M
-          (entries f.width f.number n c.args.first.now) (entries f.width f.number n c.add-both.new.first)
-          (entries f.width f.number n c.args.second.now) (entries f.width f.number n c.add-both.new.second)
+          (entries f.width f.number n c.args.first.now) (entries f.width f.number n c.add_both.new.first)
+          (entries f.width f.number n c.args.second.now) (entries f.width f.number n c.add_both.new.second)
           c.args.c c.args.r c.args.i (element f.width f.number c.get-s.result)
           (entries-elements f.width f.number f.arith n _ g.met.F.Field.wide c.args.i c.args.c)
-          c.requires.within.2 c.if-i-r.false c.get-s.ensures.value c.add-both.ensures.first c.add-both.ensures.second h;
-      first = c.add-both.ensures.clean.0;
-      second = c.add-both.ensures.clean.1;
+          c.requires.within.2 c.if-i-r.false c.get-s.ensures.value c.add_both.ensures.first c.add_both.ensures.second h;
+      first = c.add_both.ensures.clean.0;
+      second = c.add_both.ensures.clean.1;
     }

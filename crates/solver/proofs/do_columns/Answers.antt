@@ -5,10 +5,10 @@ use Rattle.solver.proofs.do_columns.Goals as goal
 
 pub loop-c-preserved : goal.loop-c-preserved
 loop-c-preserved g c = (
-  c.do-column-r.ensures.most,
-  λ M h. c.do-column-r.ensures.state M (c.loop-c.invariant.1 M h),
-  λ e. c.do-column-r.ensures.first (c.loop-c.invariant.2 e),
-  λ e. c.do-column-r.ensures.second (c.loop-c.invariant.3 e),
+  c.do_column-r.ensures.most,
+  λ M h. c.do_column-r.ensures.state M (c.loop-c.invariant.1 M h),
+  λ e. c.do_column-r.ensures.first (c.loop-c.invariant.2 e),
+  λ e. c.do_column-r.ensures.second (c.loop-c.invariant.3 e),
 )
 
 pub returns : goal.returns

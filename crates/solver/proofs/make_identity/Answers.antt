@@ -8,9 +8,9 @@ loop-i-init g c =
     let f = g.F.Field in (
       record {
         done = λ a j ha hj h. omega arith;
-        rest = λ a j ha hj h. entries-zero f.width f.number c.args.n c.make-zero.new.cells c.make-zero.ensures.zero a j;
+        rest = λ a j ha hj h. entries-zero f.width f.number c.args.n c.make_zero.new.cells c.make_zero.ensures.zero a j;
       },
-      clean-zero f.width f.number c.make-zero.new.cells c.make-zero.ensures.zero,
+      clean-zero f.width f.number c.make_zero.new.cells c.make_zero.ensures.zero,
     )
 
 pub loop-i-preserved : goal.loop-i-preserved

@@ -7,5 +7,5 @@ pub returns : goal.returns
 returns c i h =
     let s = c.args.slot.now in
     let j = c.args.j in
-    c.add-powers-in.ensures i h
+    c.add_powers_in.ensures i h
     ∙ ap (bit_xor (get_or c.args.words.now i 0)) (scaled-share s.set.m s.set.f s.set.t (λ k. get_or s.goppa k 0) (get_or s.support j 0) (get_or s.inverses j 0) i s.set.field (s.inverted j c.requires))

@@ -10,8 +10,8 @@ overflow-mul-i c =
     let q : i * m ≡ m * i = mul_comm i m in
     omega arith
 
-pub word-at-requires : goal.word-at-requires
-word-at-requires c =
+pub word_at-requires : goal.word_at-requires
+word_at-requires c =
     let i = c.loop-i.i in
     let m = c.args.m in
     let l : i ≤ length c.args.words.now = omega arith in
@@ -23,4 +23,4 @@ pub loop-i-preserved : goal.loop-i-preserved
 loop-i-preserved c =
     below_more _ _
     (λ k h. let ne : k ≢ c.loop-i.i = omega arith in rw get_or-set_other (c.loop-i.invariant k h))
-    (let lt : c.loop-i.i < length c.loop-i.words = omega arith in rw get_or-set_same c.word-at.ensures)
+    (let lt : c.loop-i.i < length c.loop-i.words = omega arith in rw get_or-set_same c.word_at.ensures)

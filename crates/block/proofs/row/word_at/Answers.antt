@@ -33,6 +33,6 @@ loop-b-preserved c =
     let more : suc (m - b) ≡ m - (b - 1) = omega arith in
     let was : c.loop-b.word ≡ low (m - b) (λ k. bits_of v (at + (b - 1) + 1 + k)) =
     c.loop-b.invariant ∙ ap (λ a. low (m - b) (λ k. bits_of v (a + k))) place in
-    let new : 2 * c.loop-b.word + c.get-bit.result ≡ low (suc (m - b)) (λ k. bits_of v (at + (b - 1) + k)) =
-    ap (λ w. 2 * w + c.get-bit.result) was ∙ ap (λ x. 2 * low (m - b) (λ k. bits_of v (at + (b - 1) + 1 + k)) + x) c.get-bit.ensures.value ∙ word_more v (at + (b - 1)) (m - b) in
+    let new : 2 * c.loop-b.word + c.get_bit.result ≡ low (suc (m - b)) (λ k. bits_of v (at + (b - 1) + k)) =
+    ap (λ w. 2 * w + c.get_bit.result) was ∙ ap (λ x. 2 * low (m - b) (λ k. bits_of v (at + (b - 1) + 1 + k)) + x) c.get_bit.ensures.value ∙ word_more v (at + (b - 1)) (m - b) in
     new ∙ ap (λ d. low d (λ k. bits_of v (at + (b - 1) + k))) more

@@ -9,6 +9,6 @@ pub returns : goal.returns
 returns c =
     let count = c.args.count in
     let out = c.args.out.now in
-    c.write-bits.ensures
+    c.write_bits.ensures
     ∙ cond-true (eqb (length out) (bytes_for count)) _ _ (eq-eqb (length out) (bytes_for count) c.requires.room)
-    ∙ pack-cong count _ _ (λ k h. ap odd (c.cross-columns.ensures k (omega arith)))
+    ∙ pack-cong count _ _ (λ k h. ap odd (c.cross_columns.ensures k (omega arith)))

@@ -17,15 +17,15 @@ loop-block-preserved c =
     let f : ℕ → ℕ = λ j. odd (column_crossed s words j) in
     let count : ℕ = c.lesser-count.result in
     let few : count ≡ min (n - 32 * block) 32 = c.lesser-count.ensures in
-    let fill : c.bytes-for.result ≡ bytes_for count = c.bytes-for.ensures in
+    let fill : c.bytes_for.result ≡ bytes_for count = c.bytes_for.ensures in
     let room : first ≤ length c.loop-block.out = omega arith in (
       λ k h l. elim (cases_lt k first) [
-        | inl below ↦ put-below first _ k c.loop-block.out c.write-block.new.out below room ∙ c.loop-block.invariant.0 k (omega arith) l
+        | inl below ↦ put-below first _ k c.loop-block.out c.write_block.new.out below room ∙ c.loop-block.invariant.0 k (omega arith) l
         | inr above ↦
             let within : k - first < bytes_for count = omega arith in
-            let same : length c.write-block.new.out ≡ bytes_for count = omega arith in
-            put-within first _ k c.loop-block.out c.write-block.new.out above (omega arith) room
-            ∙ ap (λ xs. get_or xs (k - first) 0) c.write-block.ensures
+            let same : length c.write_block.new.out ≡ bytes_for count = omega arith in
+            put-within first _ k c.loop-block.out c.write_block.new.out above (omega arith) room
+            ∙ ap (λ xs. get_or xs (k - first) 0) c.write_block.ensures
             ∙ get_or-pack count (λ i. f (32 * block + i)) (k - first) within
             ∙ part-byte n (32 * block) first count (k - first) f (omega arith) few within
             ∙ ap (byte_at n f) (let e : first + (k - first) ≡ k = omega arith in e)

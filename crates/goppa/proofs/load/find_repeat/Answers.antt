@@ -8,17 +8,17 @@ use Rattle.goppa.proofs.load.find_repeat.Goals as goal
 pub loop-j-init : goal.loop-j-init
 loop-j-init c = (seen_none (support_in c.args.t c.args.bytes.now) (marked c.args.map.now) c.requires.clear, search rules)
 
-pub returns-then-is-marked : goal.returns-then-is-marked
-returns-then-is-marked c =
+pub returns-then-is_marked : goal.returns-then-is_marked
+returns-then-is_marked c =
     let a = support_in c.args.t c.args.bytes.now in
-    let q = seen-tells a c.loop-j.j _ (marked c.loop-j.map) true c.loop-j.invariant.0 c.entry-x.ensures (sym c.if-is-marked.true ∙ c.is-marked.ensures) in
+    let q = seen-tells a c.loop-j.j _ (marked c.loop-j.map) true c.loop-j.invariant.0 c.entry-x.ensures (sym c.if-is_marked.true ∙ c.is_marked.ensures) in
     least-is c.args.n c.loop-j.j (repeated a) c.loop-j-test.true c.loop-j.invariant.1 q
 
 pub loop-j-preserved : goal.loop-j-preserved
 loop-j-preserved c =
     let a = support_in c.args.t c.args.bytes.now in
-    let q = seen-tells a c.loop-j.j _ (marked c.loop-j.map) false c.loop-j.invariant.0 c.entry-x.ensures (sym c.if-is-marked.false ∙ c.is-marked.ensures) in (
-      seen_more a c.loop-j.j _ (marked c.loop-j.map) _ c.loop-j.invariant.0 c.entry-x.ensures q c.flip-mark.ensures,
+    let q = seen-tells a c.loop-j.j _ (marked c.loop-j.map) false c.loop-j.invariant.0 c.entry-x.ensures (sym c.if-is_marked.false ∙ c.is_marked.ensures) in (
+      seen_more a c.loop-j.j _ (marked c.loop-j.map) _ c.loop-j.invariant.0 c.entry-x.ensures q c.flip_mark.ensures,
       below_more _ _ c.loop-j.invariant.1 q,
     )
 

@@ -20,17 +20,17 @@ loop-i-preserved c j l =
     let w = bytes_for c.args.m.n in
     let f : ℕ → ℕ = λ k. bits_of v k * get_or rows (k * w + j) 0 in
     let was : get_or c.loop-i.out j 0 ≡ sum i f = c.loop-i.invariant j (omega arith) in
-    elim c.if-get-bit-eq1.branch [
-      | then-get-bit-eq1 t ↦
-          row-added i f (bits_of v i) (get_or rows (i * w + j) 0) (get_or c.loop-i.out j 0) (get_or c.if-get-bit-eq1.out j 0) refl
-          (sym c.get-bit.ensures.value ∙ t.if-get-bit-eq1.true) was
+    elim c.if-get_bit-eq1.branch [
+      | then-get_bit-eq1 t ↦
+          row-added i f (bits_of v i) (get_or rows (i * w + j) 0) (get_or c.loop-i.out j 0) (get_or c.if-get_bit-eq1.out j 0) refl
+          (sym c.get_bit.ensures.value ∙ t.if-get_bit-eq1.true) was
           (ap (λ xs. get_or xs j 0) t.out-is
-          ∙ t.xor-row.ensures j (omega (arith, ap length t.out-is))
-          ∙ ap (λ l. bit_xor (get_or c.loop-i.out j 0) (get_or rows (i * l + j) 0)) c.bytes-for-length.ensures)
-      | else-get-bit-eq1 t ↦
-          let none : c.get-bit.result ≡ 0 = omega (arith, t.if-get-bit-eq1.false) in
+          ∙ t.xor_row.ensures j (omega (arith, ap length t.out-is))
+          ∙ ap (λ l. bit_xor (get_or c.loop-i.out j 0) (get_or rows (i * l + j) 0)) c.bytes_for-length.ensures)
+      | else-get_bit-eq1 t ↦
+          let none : c.get_bit.result ≡ 0 = omega (arith, t.if-get_bit-eq1.false) in
           ap (λ xs. get_or xs j 0) t.out-is
-          ∙ row-skipped i f (bits_of v i) (get_or rows (i * w + j) 0) (get_or c.loop-i.out j 0) refl (sym c.get-bit.ensures.value ∙ none) was
+          ∙ row-skipped i f (bits_of v i) (get_or rows (i * w + j) 0) (get_or c.loop-i.out j 0) refl (sym c.get_bit.ensures.value ∙ none) was
     ]
 
 pub returns : goal.returns
@@ -41,7 +41,7 @@ returns c =
     let out = c.loop-i.out in
     let fit : length out ≡ bytes_for n = omega arith in
     let end : c.loop-i.i ≡ n = omega arith in
-    c.clear-pads.ensures
+    c.clear_pads.ensures
     ∙ cond-true (eqb (length out) (bytes_for n)) _ _ (eq-eqb (length out) (bytes_for n) fit)
     ∙ rows-combined n rows v out (λ j l.
     c.loop-i.invariant j (omega arith) ∙ ap (λ m. sum m (λ k. bits_of v k * get_or rows (k * bytes_for n + j) 0)) end)

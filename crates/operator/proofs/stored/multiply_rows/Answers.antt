@@ -8,6 +8,6 @@ pub returns : goal.returns
 returns c =
     let m = c.args.m in
     let out = c.args.out.now in
-    c.write-bits.ensures
+    c.write_bits.ensures
     ∙ cond-true (eqb (length out) (bytes_for m.n)) _ _ (eq-eqb (length out) (bytes_for m.n) c.requires)
     ∙ pack-padded m.n (of_rows (bytes_for m.n) m.rows.now) (bits_of c.args.v.now)

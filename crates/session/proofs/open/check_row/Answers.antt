@@ -10,6 +10,6 @@ returns g c =
     let R = g.O.Operator.matrix c.args.blinding.now in
     let same : c.set-n.result.rows ≡ n = ap (λ (z : Sizes). z.rows) c.set-n.ensures in
     record {
-      result = unit-checked c.set-n.result.rows n R (g.K.Key.checks key) c.args.s.now c.row-product.new.b c.args.i c.check-unit.result same c.row-product.ensures.second c.check-unit.ensures;
-      first = c.row-product.ensures.first;
+      result = unit-checked c.set-n.result.rows n R (g.K.Key.checks key) c.args.s.now c.row_product.new.b c.args.i c.check_unit.result same c.row_product.ensures.second c.check_unit.ensures;
+      first = c.row_product.ensures.first;
     }

@@ -25,6 +25,6 @@ returns g c =
     ∙ ap (λ x. pack n (λ i. H i (x + c.args.c))) same in
     record {
       result = refl;
-      written = public-made n made.n H (of_rows (bytes_for made.n) made.rows.now) inverse c.args.c c.column.new.out c.args.b.now c.column-action.new.out c.column-action.result
-          size rows c.requires.room.1 (g.K.Key.elements key) given c.column-action.ensures;
+      written = public-made n made.n H (of_rows (bytes_for made.n) made.rows.now) inverse c.args.c c.column.new.out c.args.b.now c.column_action.new.out c.column_action.result
+          size rows c.requires.room.1 (g.K.Key.elements key) given c.column_action.ensures;
     }

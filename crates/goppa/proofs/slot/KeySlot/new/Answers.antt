@@ -4,8 +4,8 @@ use Rattle.goppa.specs.Loading.{entry_in, key_in}
 use Rattle.goppa.proofs.Lawful.{Passed, lawful, key-is, elements-of, fresh-bytes, fresh-passed}
 use Rattle.goppa.proofs.slot.KeySlot.new.Goals as goal
 
-pub write-inverses-requires : goal.write-inverses-requires
-write-inverses-requires c =
+pub write_inverses-requires : goal.write_inverses-requires
+write_inverses-requires c =
     let s = numbers c.practice12-set.result in
     let passed = subst (λ s. Passed s fresh-bytes) (sym c.practice12-set.ensures) fresh-passed in
     record { size = search rules; small = elements-of s.m (s.t + s.n) (entry_in fresh-bytes) passed.small }
@@ -13,11 +13,11 @@ write-inverses-requires c =
 pub invariant-of-result : goal.invariant-of-result
 invariant-of-result c =
     let passed = subst (λ s. Passed s fresh-bytes) (sym c.practice12-set.ensures) fresh-passed in
-    let l = lawful (numbers c.practice12-set.result) fresh-bytes (λ k. get_or c.read-entries.new.out k 0) (λ j. get_or c.read-entries-2.new.out j 0) (λ j. get_or c.write-inverses.new.out j 0)
-    passed c.read-entries.ensures c.read-entries-2.ensures c.write-inverses.ensures in
+    let l = lawful (numbers c.practice12-set.result) fresh-bytes (λ k. get_or c.read_entries.new.out k 0) (λ j. get_or c.read_entries-2.new.out j 0) (λ j. get_or c.write_inverses.new.out j 0)
+    passed c.read_entries.ensures c.read_entries-2.ensures c.write_inverses.ensures in
     (search rules, (search rules, (search rules, (l.coefficients, (l.points, (l.distinct, (l.rootless, (l.inverted, tt))))))))
 
 pub returns : goal.returns
 returns c =
-    key-is (numbers c.practice12-set.result) fresh-bytes c.read-entries.new.out c.read-entries-2.new.out (search rules) (search rules) c.read-entries.ensures c.read-entries-2.ensures
+    key-is (numbers c.practice12-set.result) fresh-bytes c.read_entries.new.out c.read_entries-2.new.out (search rules) (search rules) c.read_entries.ensures c.read_entries-2.ensures
     ∙ ap (λ s. key_in s fresh-bytes) c.practice12-set.ensures

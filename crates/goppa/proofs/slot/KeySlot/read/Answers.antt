@@ -5,22 +5,22 @@ use Rattle.goppa.specs.Loading.{entry_in, large, key_of, outcome, held}
 use Rattle.goppa.proofs.Lawful.{Passed, lawful, key-is, read_ok, elements-of, elements-wide}
 use Rattle.goppa.proofs.slot.KeySlot.read.Goals as goal
 
-pub first-repeat-at-requires : goal.first-repeat-at-requires
-first-repeat-at-requires c =
+pub first_repeat-at-requires : goal.first_repeat-at-requires
+first_repeat-at-requires c =
     let s = c.args.set in
     let e = entry_in c.args.bytes.now in
-    let h : s.t + s.n ≤ least (s.t + s.n) (large s.m e) = omega (arith, c.first-large-at.ensures) in
+    let h : s.t + s.n ≤ least (s.t + s.n) (large s.m e) = omega (arith, c.first_large-at.ensures) in
     record { fit = search rules; small = elements-wide s.m 13 (s.t + s.n) e s.wide (elements-of s.m (s.t + s.n) e h) }
 
-pub find-root-at-requires : goal.find-root-at-requires
-find-root-at-requires c =
+pub find_root-at-requires : goal.find_root-at-requires
+find_root-at-requires c =
     let s = c.args.set in
-    record { size = search rules; small = elements-of s.m (s.t + s.n) (entry_in c.args.bytes.now) (omega (arith, c.first-large-at.ensures)) }
+    record { size = search rules; small = elements-of s.m (s.t + s.n) (entry_in c.args.bytes.now) (omega (arith, c.first_large-at.ensures)) }
 
-pub write-inverses-requires : goal.write-inverses-requires
-write-inverses-requires c =
+pub write_inverses-requires : goal.write_inverses-requires
+write_inverses-requires c =
     let s = c.args.set in
-    record { size = search rules; small = elements-of s.m (s.t + s.n) (entry_in c.args.bytes.now) (omega (arith, c.first-large-at.ensures)) }
+    record { size = search rules; small = elements-of s.m (s.t + s.n) (entry_in c.args.bytes.now) (omega (arith, c.first_large-at.ensures)) }
 
 pub invariant-of-self : goal.invariant-of-self
 invariant-of-self c =
@@ -28,12 +28,12 @@ invariant-of-self c =
     let bs = c.args.bytes.now in
     let passed : Passed s bs = record {
       size = search rules;
-      small = omega (arith, c.first-large-at.ensures);
-      apart = omega (arith, c.first-repeat-at.ensures);
-      nonzero = omega (arith, c.find-root-at.ensures);
+      small = omega (arith, c.first_large-at.ensures);
+      apart = omega (arith, c.first_repeat-at.ensures);
+      nonzero = omega (arith, c.find_root-at.ensures);
     } in
-    let l = lawful s bs (λ k. get_or c.read-entries.new.out k 0) (λ j. get_or c.read-entries-2.new.out j 0) (λ j. get_or c.write-inverses.new.out j 0)
-    passed c.read-entries.ensures c.read-entries-2.ensures c.write-inverses.ensures in
+    let l = lawful s bs (λ k. get_or c.read_entries.new.out k 0) (λ j. get_or c.read_entries-2.new.out j 0) (λ j. get_or c.write_inverses.new.out j 0)
+    passed c.read_entries.ensures c.read_entries-2.ensures c.write_inverses.ensures in
     (search rules, (search rules, (search rules, (l.coefficients, (l.points, (l.distinct, (l.rootless, (l.inverted, tt))))))))
 
 pub returns : goal.returns
@@ -42,12 +42,12 @@ returns c =
     let bs = c.args.bytes.now in
     let ok = read_ok s bs (record {
       size = search rules;
-      small = omega (arith, c.first-large-at.ensures);
-      apart = omega (arith, c.first-repeat-at.ensures);
-      nonzero = omega (arith, c.find-root-at.ensures);
+      small = omega (arith, c.first_large-at.ensures);
+      apart = omega (arith, c.first_repeat-at.ensures);
+      nonzero = omega (arith, c.find_root-at.ensures);
     }) in
     record {
       result = sym (ap outcome ok);
-      holds = key-is s bs c.read-entries.new.out c.read-entries-2.new.out (search rules) (search rules) c.read-entries.ensures c.read-entries-2.ensures
+      holds = key-is s bs c.read_entries.new.out c.read_entries-2.new.out (search rules) (search rules) c.read_entries.ensures c.read_entries-2.ensures
           ∙ sym (ap (λ r. held r (key_of c.args.self.now)) ok);
     }

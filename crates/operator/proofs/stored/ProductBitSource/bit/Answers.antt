@@ -10,7 +10,7 @@ returns c =
     let i = c.args.i in
     record {
       value = c.dot.ensures.value
-          ∙ dot-entry n i c.bytes-for.result s.m.rows.now s.v.now c.bytes-for.ensures
+          ∙ dot-entry n i c.bytes_for.result s.m.rows.now s.v.now c.bytes_for.ensures
           ∙ sym (pad-entry n (of_rows (bytes_for n) s.m.rows.now) (bits_of s.v.now) i c.if-i-n.false);
       small = c.dot.ensures.small;
     }

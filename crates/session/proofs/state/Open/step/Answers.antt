@@ -34,14 +34,14 @@ returns-in-Receiving-Row g c =
     let B = blinded (g.K.Key.sizes c.args.key.now).rows R (g.K.Key.checks c.args.key.now) in
     let f = c.args.frame.now in
     let rd = subst (λ x. Reads (bytes_for n) f (Ok x)) c.in-Receiving-Row.is-1 c.in-ok-frame.ensures in
-    let z = c.take-row.new in
-    let P : ℕ → List ℕ → Type 0 = λ q b. Stepped n R (unit_lines n B o.rows b) (row_reply o.rows) q o.rows c.args.inverse.now b c.args.reply.now c.take-row.result (phase_number z.self.phase) z.self.rows z.inverse z.reply in
+    let z = c.take_row.new in
+    let P : ℕ → List ℕ → Type 0 = λ q b. Stepped n R (unit_lines n B o.rows b) (row_reply o.rows) q o.rows c.args.inverse.now b c.args.reply.now c.take_row.result (phase_number z.self.phase) z.self.rows z.inverse z.reply in
     record {
-      done = stepped-as n R p o.rows c.args.inverse.now (row_in f) c.args.reply.now c.take-row.result (frame_lines n B p o.rows f) (unit_lines n B o.rows (row_in f)) (granted B p o.rows f) (row_reply o.rows) (phase_number z.self.phase) z.self.rows z.inverse z.reply
+      done = stepped-as n R p o.rows c.args.inverse.now (row_in f) c.args.reply.now c.take_row.result (frame_lines n B p o.rows f) (unit_lines n B o.rows (row_in f)) (granted B p o.rows f) (row_reply o.rows) (phase_number z.self.phase) z.self.rows z.inverse z.reply
           (sym (row_first n B p o.rows f rd.0 rd.1 zero (sym rd.2 ∙ c.if-index-self.true)))
           (sym (granted-row n B p o.rows f rd.0))
-          (subst (λ q. P q (row_in f)) (sym zero) (subst (P 0) rd.3 c.take-row.ensures.done));
-      set = c.take-row.ensures.set;
+          (subst (λ q. P q (row_in f)) (sym zero) (subst (P 0) rd.3 c.take_row.ensures.done));
+      set = c.take_row.ensures.set;
     }
 
 pub returns-in-Receiving-Combination : goal.returns-in-Receiving-Combination
@@ -54,12 +54,12 @@ returns-in-Receiving-Combination g c =
     let B = blinded (g.K.Key.sizes c.args.key.now).rows R (g.K.Key.checks c.args.key.now) in
     let f = c.args.frame.now in
     let rd = subst (λ x. Reads (bytes_for n) f (Ok x)) c.in-Receiving-Combination.is-1 c.in-ok-frame.ensures in
-    let z = c.take-combination.new in
-    let P : ℕ → List ℕ → Type 0 = λ q b. Stepped n R (combination_lines n B b) combination_reply q o.rows c.args.inverse.now (row_in f) c.args.reply.now c.take-combination.result (phase_number z.self.phase) z.self.rows c.args.inverse.now z.reply in
+    let z = c.take_combination.new in
+    let P : ℕ → List ℕ → Type 0 = λ q b. Stepped n R (combination_lines n B b) combination_reply q o.rows c.args.inverse.now (row_in f) c.args.reply.now c.take_combination.result (phase_number z.self.phase) z.self.rows c.args.inverse.now z.reply in
     record {
-      done = stepped-as n R p o.rows c.args.inverse.now (row_in f) c.args.reply.now c.take-combination.result (frame_lines n B p o.rows f) (combination_lines n B (combination_in f)) (granted B p o.rows f) combination_reply (phase_number z.self.phase) z.self.rows c.args.inverse.now z.reply
+      done = stepped-as n R p o.rows c.args.inverse.now (row_in f) c.args.reply.now c.take_combination.result (frame_lines n B p o.rows f) (combination_lines n B (combination_in f)) (granted B p o.rows f) combination_reply (phase_number z.self.phase) z.self.rows c.args.inverse.now z.reply
           (sym (combination-first n B p o.rows f rd.0 rd.1 zero))
           (sym (granted-combination n B p o.rows f rd.0))
-          (subst (λ q. P q (combination_in f)) (sym zero) (subst (P 0) rd.2 (c.take-combination.ensures.done c.args.inverse.now (row_in f))));
-      set = c.take-combination.ensures.set;
+          (subst (λ q. P q (combination_in f)) (sym zero) (subst (P 0) rd.2 (c.take_combination.ensures.done c.args.inverse.now (row_in f))));
+      set = c.take_combination.ensures.set;
     }

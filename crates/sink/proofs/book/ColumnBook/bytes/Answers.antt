@@ -12,5 +12,5 @@ returns c =
     record {
       is = refl;
       holds = told-by-store s.made xs (packed_rows s.limit s.size (λ j i. entry_of (columns_of s.size s.taken (book_matrix s.size xs)) i j))
-          (λ made. book-bytes s.size s.limit s.taken xs (s.exact made) c.are-bytes.ensures (λ a j la lj h. s.blank a j (made, la, lj, h)));
+          (λ made. book-bytes s.size s.limit s.taken xs (s.exact made) c.are_bytes.ensures (λ a j la lj h. s.blank a j (made, la, lj, h)));
     }

@@ -11,13 +11,13 @@ invariant-of-result c =
     let w = bytes_for c.args.size in
     (search rules, (search rules, (search rules, (search rules, (search rules, (search rules, (λ a j h. ap (λ xs. of_rows w xs a j) c.clear.ensures ∙ rows-blank w _ a j, tt)))))))
 
-pub returns-then-is-ok : goal.returns-then-is-ok
-returns-then-is-ok c =
+pub returns-then-is_ok : goal.returns-then-is_ok
+returns-then-is_ok c =
     let n = c.args.size in
     let l = c.args.limit in
     let xs = c.args.bytes.now in
     let r = book_check n l (length xs) in
-    let ok : is_ok r ≡ true = ap is_ok (sym c.check.ensures) ∙ sym c.is-ok.ensures.value ∙ c.if-is-ok.true in
+    let ok : is_ok r ≡ true = ap is_ok (sym c.check.ensures) ∙ sym c.is_ok.ensures.value ∙ c.if-is_ok.true in
     record {
       holds = made-is-new r n l xs c.clear.new.bytes (book_matrix n c.clear.new.bytes) ok;
       memory = c.clear.ensures ∙ sym (cond-true (is_ok r) _ xs ok);
@@ -30,7 +30,7 @@ returns c =
     let l = c.args.limit in
     let xs = c.args.bytes.now in
     let r = book_check n l (length xs) in
-    let no-sink : is_ok r ≡ false = ap is_ok (sym c.check.ensures) ∙ sym c.is-ok.ensures.value ∙ c.if-is-ok.false in
+    let no-sink : is_ok r ≡ false = ap is_ok (sym c.check.ensures) ∙ sym c.is_ok.ensures.value ∙ c.if-is_ok.false in
     record {
       holds = refused-is r xs (book_matrix 1 xs) _ no-sink;
       memory = sym (cond-false (is_ok r) _ xs no-sink);

@@ -24,7 +24,7 @@ loop-b-preserved c =
     below_more _ _
     (λ k h. let ne : k ≢ c.loop-b.b = omega arith in rw get_or-set_other (c.loop-b.invariant k h))
     (let lt : c.loop-b.b < length c.loop-b.out = omega arith in
-    rw get_or-set_same (c.clean-byte.ensures xs (get_or-drop (c.args.j * bytes_for s.size) s.bytes.now c.loop-b.b 0)))
+    rw get_or-set_same (c.clean_byte.ensures xs (get_or-drop (c.args.j * bytes_for s.size) s.bytes.now c.loop-b.b 0)))
 
 pub returns : goal.returns
 returns c =

@@ -35,7 +35,7 @@ loop-j-preserved c =
       inv.3,
       below_more _ _
           (λ k h. let ne : at + k ≢ at + j = omega arith in rw get_or-set_other (inv.4 k h))
-          (rw get_or-set_same (c.clean-byte.ensures c.args.column.now refl)),
+          (rw get_or-set_same (c.clean_byte.ensures c.args.column.now refl)),
       λ p h. let ne : p ≢ at + j = omega arith in rw get_or-set_other (inv.5 p h),
     )
 
@@ -49,7 +49,7 @@ invariant-of-self-in-loop-j c =
     let t = s.taken in
     let v = c.args.column.now in
     let ys = z.bytes.now in
-    let after = set ys (t * w + j) c.clean-byte.result in
+    let after = set ys (t * w + j) c.clean_byte.result in
     let fits : t * w + j < length ys =
     byte_fits t j s.limit w z.limit (bytes_for z.size) (length ys) c.if-t-self.false c.loop-j-test.true z.room inv.1 (ap bytes_for inv.0) in
     let blank : (a i : ℕ) → (z.made ≡ true) × (a < z.limit) × (i < 8 * bytes_for z.size) × ((z.taken ≤ a) ⊎ (z.size ≤ i)) → of_rows (bytes_for z.size) after a i ≡ 0 =
@@ -58,7 +58,7 @@ invariant-of-self-in-loop-j c =
     let was : of_rows w ys a i ≡ 0 = subst (λ n. of_rows (bytes_for n) ys a i ≡ 0) inv.0 (z.blank a i h) in
     let out : (t + 1 ≤ a) ⊎ (s.size ≤ i) = elim h.3 [ inl p ↦ inl (omega (arith, p, inv.2)) | inr p ↦ inr (omega (arith, p, inv.0)) ] in
     subst (λ n. of_rows (bytes_for n) after a i ≡ 0) (sym inv.0)
-    (book-blank s.size t j c.clean-byte.result v ys c.loop-j-test.true fits (c.clean-byte.ensures v refl) a i li out was) in
+    (book-blank s.size t j c.clean_byte.result v ys c.loop-j-test.true fits (c.clean_byte.ensures v refl) a i li out was) in
     (search rules, (search rules, (search rules, (search rules, (search rules, (search rules, (blank, tt)))))))
 
 pub returns : goal.returns

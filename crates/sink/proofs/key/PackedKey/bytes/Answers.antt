@@ -12,5 +12,5 @@ returns c =
     record {
       is = refl;
       holds = told-by-store s.made xs (packed_rows s.size s.limit (entry_of (columns_of s.size s.taken (key_matrix s.limit xs))))
-          (λ made. key-bytes s.size s.limit s.taken xs s.few (s.exact made) c.are-bytes.ensures (λ a j la lj h. s.blank a j (made, la, lj, h)));
+          (λ made. key-bytes s.size s.limit s.taken xs s.few (s.exact made) c.are_bytes.ensures (λ a j la lj h. s.blank a j (made, la, lj, h)));
     }

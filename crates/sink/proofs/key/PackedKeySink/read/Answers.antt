@@ -15,6 +15,6 @@ returns c =
     let out = c.args.out.now in
     let e = key_matrix s.limit s.bytes.now in
     let room = c.if-out-n.false in
-    let got = c.write-bits.new.out in
+    let got = c.write_bits.new.out in
     reads s.size s.limit s.taken s.made s.bytes.now e j out got room c.if-j-self.false
-    (key-column s.size (λ i. e i j) out got room c.write-bits.ensures)
+    (key-column s.size (λ i. e i j) out got room c.write_bits.ensures)

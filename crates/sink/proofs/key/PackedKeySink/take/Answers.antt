@@ -39,9 +39,9 @@ loop-i-preserved c =
     let ys = z.bytes.now in
     let fits : i * w + t / 8 < length ys =
     byte_fits i (t / 8) s.size w z.size (bytes_for z.limit) (length ys) c.loop-i-test.true (omega arith) z.room inv.0 (ap bytes_for inv.1) in
-    let put : Put w i t c.put-bit.result v ys =
-    λ k l. c.put-bit.ensures k l ∙ ap (λ x. cond (eqb k (t % 8)) x (bit_of (get_or ys (i * w + t / 8) 0) k)) c.get-bit.ensures.value in
-    (inv.0, inv.1, inv.2, inv.3, key_step w s.size i t c.put-bit.result v s.bytes.now ys (omega arith) fits put inv.4)
+    let put : Put w i t c.put_bit.result v ys =
+    λ k l. c.put_bit.ensures k l ∙ ap (λ x. cond (eqb k (t % 8)) x (bit_of (get_or ys (i * w + t / 8) 0) k)) c.get_bit.ensures.value in
+    (inv.0, inv.1, inv.2, inv.3, key_step w s.size i t c.put_bit.result v s.bytes.now ys (omega arith) fits put inv.4)
 
 pub invariant-of-self-in-loop-i : goal.invariant-of-self-in-loop-i
 invariant-of-self-in-loop-i c =
@@ -53,17 +53,17 @@ invariant-of-self-in-loop-i c =
     let t = s.taken in
     let v = c.args.column.now in
     let ys = z.bytes.now in
-    let after = set ys (i * w + t / 8) c.put-bit.result in
+    let after = set ys (i * w + t / 8) c.put_bit.result in
     let fits : i * w + t / 8 < length ys =
     byte_fits i (t / 8) s.size w z.size (bytes_for z.limit) (length ys) c.loop-i-test.true (omega arith) z.room inv.0 (ap bytes_for inv.1) in
-    let put : Put w i t c.put-bit.result v ys =
-    λ k l. c.put-bit.ensures k l ∙ ap (λ x. cond (eqb k (t % 8)) x (bit_of (get_or ys (i * w + t / 8) 0) k)) c.get-bit.ensures.value in
+    let put : Put w i t c.put_bit.result v ys =
+    λ k l. c.put_bit.ensures k l ∙ ap (λ x. cond (eqb k (t % 8)) x (bit_of (get_or ys (i * w + t / 8) 0) k)) c.get_bit.ensures.value in
     let blank : (a j : ℕ) → (z.made ≡ true) × (a < z.size) × (z.taken ≤ j) × (j < 8 * bytes_for z.limit) → of_rows (bytes_for z.limit) after a j ≡ 0 =
     λ a j h.
     let lj : j < 8 * w = omega (arith, h.3, inv.1) in
     let was : of_rows w ys a j ≡ 0 = subst (λ l. of_rows (bytes_for l) ys a j ≡ 0) inv.1 (z.blank a j h) in
     subst (λ l. of_rows (bytes_for l) after a j ≡ 0) (sym inv.1)
-    (key-kept w i t c.put-bit.result v ys (omega arith) fits put a j lj (λ p _. omega (arith, h.2, inv.2)) ∙ was) in
+    (key-kept w i t c.put_bit.result v ys (omega arith) fits put a j lj (λ p _. omega (arith, h.2, inv.2)) ∙ was) in
     (search rules, (search rules, (search rules, (search rules, (search rules, (search rules, (blank, tt)))))))
 
 pub returns : goal.returns
