@@ -37,12 +37,12 @@ returns g c = let f = g.F.Field in record {
   clean = c.loop-j.invariant.1;
 }
 
-pub offset-bounds-row-k : goal.offset-bounds-row-k
-offset-bounds-row-k g c =
+pub offset_bounds-row-k : goal.offset_bounds-row-k
+offset_bounds-row-k g c =
     let q : c.loop-k.k < length c.args.cells.now = omega (arith, place-lt c.args.n 0 c.loop-k.k (omega arith) (omega arith), c.requires.size) in
     search rules
 
-pub offset-bounds-row-j : goal.offset-bounds-row-j
-offset-bounds-row-j g c =
+pub offset_bounds-row-j : goal.offset_bounds-row-j
+offset_bounds-row-j g c =
     let q : c.loop-j.j < length c.loop-j.cells = omega (arith, place-lt c.args.n 0 c.loop-j.j (omega arith) (omega arith), c.requires.size) in
     search rules

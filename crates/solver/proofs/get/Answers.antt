@@ -2,8 +2,8 @@ use Rattle.std.proofs.Common.{arith}
 use Rattle.solver.proofs.Grid.{place-lt, entries-read, clean-read}
 use Rattle.solver.proofs.get.Goals as goal
 
-pub offset-bounds-cells-i : goal.offset-bounds-cells-i
-offset-bounds-cells-i g c = omega (arith, place-lt c.args.n c.args.i c.args.j c.requires.within.0 c.requires.within.1)
+pub offset_bounds-cells-i : goal.offset_bounds-cells-i
+offset_bounds-cells-i g c = omega (arith, place-lt c.args.n c.args.i c.args.j c.requires.within.0 c.requires.within.1)
 
 pub bounds-cells-i : goal.bounds-cells-i
 bounds-cells-i g c = omega (arith, place-lt c.args.n c.args.i c.args.j c.requires.within.0 c.requires.within.1)

@@ -2,8 +2,8 @@ use Rattle.std.proofs.Common.{◌+◌, ◌*◌, ◌<◌, length, arith, rules}
 use Rattle.solver.proofs.Grid.{place-lt, entries-set, entries-other, clean-set}
 use Rattle.solver.proofs.put.Goals as goal
 
-pub offset-bounds-cells-i : goal.offset-bounds-cells-i
-offset-bounds-cells-i g c =
+pub offset_bounds-cells-i : goal.offset_bounds-cells-i
+offset_bounds-cells-i g c =
     let q : c.args.i * c.args.n + c.args.j < length c.args.cells.now = omega (arith, place-lt c.args.n c.args.i c.args.j c.requires.within.0 c.requires.within.1) in
     search rules
 

@@ -1,8 +1,8 @@
 use Rattle.std.proofs.Common.{◌≡◌, ◌*◌, ◌<◌, ◌≤◌, ◌≢◌, length, mul_comm, mul-le-mul_left, arith, get_or-set_other, get_or-set_same, below_more}
 use Rattle.block.proofs.row.take_words.Goals as goal
 
-pub overflow-mul-i : goal.overflow-mul-i
-overflow-mul-i c =
+pub overflow_mul-i : goal.overflow_mul-i
+overflow_mul-i c =
     let i = c.loop-i.i in
     let m = c.args.m in
     let l : i ≤ length c.args.words.now = omega arith in

@@ -3,8 +3,8 @@ use Rattle.bits.specs.Bits.{bits_of, low}
 use Rattle.block.proofs.Words.{word_lt, word_more}
 use Rattle.block.proofs.row.word_at.Goals as goal
 
-pub overflow-mul-word : goal.overflow-mul-word
-overflow-mul-word c =
+pub overflow_mul-word : goal.overflow_mul-word
+overflow_mul-word c =
     let v = c.args.v.now in
     let at = c.args.at in
     let d = c.args.m - c.loop-b.b in
@@ -13,8 +13,8 @@ overflow-mul-word c =
     let w : c.loop-b.word < 2 ^ d = omega (arith, word_lt v (at + c.loop-b.b) d) in
     omega arith
 
-pub overflow-add-word : goal.overflow-add-word
-overflow-add-word c =
+pub overflow_add-word : goal.overflow_add-word
+overflow_add-word c =
     let v = c.args.v.now in
     let at = c.args.at in
     let d = c.args.m - c.loop-b.b in

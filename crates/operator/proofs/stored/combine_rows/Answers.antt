@@ -6,7 +6,7 @@ use Rattle.matrix.specs.Matrix.{sum}
 use Rattle.bits.specs.Bits.{bits_of, bytes_for}
 use Rattle.bits.proofs.Bytes.{rows-combined, row-added, row-skipped}
 use Rattle.operator.proofs.stored.combine_rows.Goals as goal
-use Rattle.operator.proofs.stored.combine_rows.Goals.{then-get-bit-eq1, else-get-bit-eq1}
+use Rattle.operator.proofs.stored.combine_rows.Goals.{then-get_bit-eq1, else-get_bit-eq1}
 
 pub loop-i-init : goal.loop-i-init
 unfolding sum

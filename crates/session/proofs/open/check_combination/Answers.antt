@@ -7,16 +7,16 @@ use Rattle.session.proofs.Products.{some-checked, none-checked}
 use Rattle.session.proofs.Steps.{refused-is, granted-is, first-kept, first-after}
 use Rattle.session.proofs.open.check_combination.Goals as goal
 
-pub returns-in-err-check_some : goal.returns-in-err-check_some
-returns-in-err-check_some g c =
+pub returns-in_err-check_some : goal.returns-in_err-check_some
+returns-in_err-check_some g c =
     let key = c.args.key.now in
     let n = (g.K.Key.sizes key).rows in
     let B = blinded n (g.O.Operator.matrix c.args.blinding.now) (g.K.Key.checks key) in
     let v = c.args.v.now in
-    let e = c.in-err-check_some.field-0.0 in
+    let e = c.in_err-check_some.field-0.0 in
     let same : c.set-n.result.rows ≡ n = ap (λ (z : Sizes). z.rows) c.set-n.ensures in
     let some : first (line (not (ltb (leading n v) n)) Zero ∷ []) ≡ Some e =
-    refused-is (first (line (not (ltb (leading n v) n)) Zero ∷ [])) e (sym c.in-err-check_some.was ∙ some-checked c.set-n.result.rows n v c.check_some.result same c.check_some.ensures) in
+    refused-is (first (line (not (ltb (leading n v) n)) Zero ∷ [])) e (sym c.in_err-check_some.was ∙ some-checked c.set-n.result.rows n v c.check_some.result same c.check_some.ensures) in
     let p = err_from_is_err_and c.from-residual.result c.from-residual.ensures.1 in
     p.1 ∙ ap (λ x. Err x) p.2
     ∙ ap refused_by (sym (first-kept (line (not (ltb (leading n v) n)) Zero ∷ []) (line (ltb (nonzero n B v) n) (Nonzero (nonzero n B v)) ∷ []) e some))
@@ -31,6 +31,6 @@ returns g c =
     let v = c.args.v.now in
     let same : c.set-n.result.rows ≡ n = ap (λ (z : Sizes). z.rows) c.set-n.ensures in
     let none : first (line (not (ltb (leading n v) n)) Zero ∷ []) ≡ None =
-    granted-is (first (line (not (ltb (leading n v) n)) Zero ∷ [])) c.in-ok-check_some.field-0 (sym c.in-ok-check_some.was ∙ some-checked c.set-n.result.rows n v c.check_some.result same c.check_some.ensures) in
+    granted-is (first (line (not (ltb (leading n v) n)) Zero ∷ [])) c.in_ok-check_some.field-0 (sym c.in_ok-check_some.was ∙ some-checked c.set-n.result.rows n v c.check_some.result same c.check_some.ensures) in
     none-checked c.set-n.result.rows n R H v c.row_product.new.b c.check_none.result same c.row_product.ensures.second c.check_none.ensures
     ∙ ap refused_by (sym (first-after (line (not (ltb (leading n v) n)) Zero ∷ []) (line (ltb (nonzero n B v) n) (Nonzero (nonzero n B v)) ∷ []) none))

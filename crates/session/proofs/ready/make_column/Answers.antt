@@ -21,7 +21,7 @@ returns g c =
     let rows : of_rows (bytes_for made.n) made.rows.now ≡ of_rows (bytes_for n) inverse = c.new.ensures.entries ∙ ap (λ b. cond b (of_rows (bytes_for k) inverse) zeros) good' ∙ ap (λ x. of_rows (bytes_for x) inverse) same in
     let given : c.column.new.out ≡ pack n (λ i. H i (n + c.args.c)) =
     c.column.ensures.written
-    ∙ ap (λ (x : Result (Unit {0}) ColumnFault). cond (is_ok x) (pack n (λ i. H i (k + c.args.c))) c.args.a.now) c.in-ok-column.was
+    ∙ ap (λ (x : Result (Unit {0}) ColumnFault). cond (is_ok x) (pack n (λ i. H i (k + c.args.c))) c.args.a.now) c.in_ok-column.was
     ∙ ap (λ x. pack n (λ i. H i (x + c.args.c))) same in
     record {
       result = refl;

@@ -9,7 +9,7 @@ pub returns : goal.returns
 returns c k l =
     let x = c.args.x in
     let b = c.args.b in
-    let d = bit_xor c.bit-of.result c.args.bit in
-    let small : d < 2 = xor_lt 1 c.bit-of.result c.args.bit c.bit-of.ensures.small c.requires.value in
+    let d = bit_xor c.bit_of.result c.args.bit in
+    let small : d < 2 = xor_lt 1 c.bit_of.result c.args.bit c.bit_of.ensures.small c.requires.value in
     ap (λ y. bit_of (bit_xor x y) k) (shl_whole d 1 b 8 small (omega arith))
-    ∙ bit-put x b c.args.bit d k (ap (λ y. bit_xor y c.args.bit) c.bit-of.ensures.value) small c.requires.place l
+    ∙ bit-put x b c.args.bit d k (ap (λ y. bit_xor y c.args.bit) c.bit_of.ensures.value) small c.requires.place l

@@ -10,12 +10,21 @@ write_inverses-requires c =
     let passed = subst (λ s. Passed s fresh-bytes) (sym c.practice12-set.ensures) fresh-passed in
     record { size = search rules; small = elements-of s.m (s.t + s.n) (entry_in fresh-bytes) passed.small }
 
-pub invariant-of-result : goal.invariant-of-result
-invariant-of-result c =
+pub invariant_of-result : goal.invariant_of-result
+invariant_of-result c =
     let passed = subst (λ s. Passed s fresh-bytes) (sym c.practice12-set.ensures) fresh-passed in
     let l = lawful (numbers c.practice12-set.result) fresh-bytes (λ k. get_or c.read_entries.new.out k 0) (λ j. get_or c.read_entries-2.new.out j 0) (λ j. get_or c.write_inverses.new.out j 0)
     passed c.read_entries.ensures c.read_entries-2.ensures c.write_inverses.ensures in
-    (search rules, (search rules, (search rules, (l.coefficients, (l.points, (l.distinct, (l.rootless, (l.inverted, tt))))))))
+    record {
+      degree = search rules;
+      long = search rules;
+      kept = search rules;
+      coefficients = l.coefficients;
+      points = l.points;
+      distinct = l.distinct;
+      rootless = l.rootless;
+      inverted = l.inverted;
+    }
 
 pub returns : goal.returns
 returns c =

@@ -22,8 +22,8 @@ write_inverses-requires c =
     let s = c.args.set in
     record { size = search rules; small = elements-of s.m (s.t + s.n) (entry_in c.args.bytes.now) (omega (arith, c.first_large-at.ensures)) }
 
-pub invariant-of-self : goal.invariant-of-self
-invariant-of-self c =
+pub invariant_of-self : goal.invariant_of-self
+invariant_of-self c =
     let s = numbers c.args.set in
     let bs = c.args.bytes.now in
     let passed : Passed s bs = record {
@@ -34,7 +34,16 @@ invariant-of-self c =
     } in
     let l = lawful s bs (λ k. get_or c.read_entries.new.out k 0) (λ j. get_or c.read_entries-2.new.out j 0) (λ j. get_or c.write_inverses.new.out j 0)
     passed c.read_entries.ensures c.read_entries-2.ensures c.write_inverses.ensures in
-    (search rules, (search rules, (search rules, (l.coefficients, (l.points, (l.distinct, (l.rootless, (l.inverted, tt))))))))
+    record {
+      degree = search rules;
+      long = search rules;
+      kept = search rules;
+      coefficients = l.coefficients;
+      points = l.points;
+      distinct = l.distinct;
+      rootless = l.rootless;
+      inverted = l.inverted;
+    }
 
 pub returns : goal.returns
 returns c =

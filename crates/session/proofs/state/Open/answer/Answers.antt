@@ -24,7 +24,7 @@ returns-in-Ok g c =
     let o = c.args.self.now in
     let k : Secret = secret (g.K.Key.sizes c.args.key.now) (g.K.Key.checks c.args.key.now) (g.O.Operator.order c.args.blinding.now) (g.O.Operator.matrix c.args.blinding.now) in
     let m : Lent = lent (length c.args.inverse.now) (length c.args.working.now) (length c.args.reply.now) in
-    let none : first (memory_lines o.set c.set.result c.size.result m) ≡ None = granted-is (first (memory_lines o.set c.set.result c.size.result m)) c.in-default.field-0 (sym c.in-default.is ∙ c.check_memory-fits.ensures) in
+    let none : first (memory_lines o.set c.set.result c.size.result m) ≡ None = granted-is (first (memory_lines o.set c.set.result c.size.result m)) c.in_default.field-0 (sym c.in_default.is ∙ c.check_memory-fits.ensures) in
     let fits : first (memory_lines o.set k.set k.order m) ≡ None = (λ i. first (memory_lines o.set (sym c.set.ensures i) (sym c.size.ensures i) m)) ∙ none in
     let z = c.step.new in
     record {
@@ -38,7 +38,7 @@ pub refuse-requires : goal.refuse-requires
 refuse-requires g c =
     let o = c.args.self.now in
     let m : Lent = lent (length c.args.inverse.now) (length c.args.working.now) (length c.args.reply.now) in
-    let none : first (memory_lines o.set c.set.result c.size.result m) ≡ None = granted-is (first (memory_lines o.set c.set.result c.size.result m)) c.in-default.field-0 (sym c.in-default.is ∙ c.check_memory-fits.ensures) in
+    let none : first (memory_lines o.set c.set.result c.size.result m) ≡ None = granted-is (first (memory_lines o.set c.set.result c.size.result m)) c.in_default.field-0 (sym c.in_default.is ∙ c.check_memory-fits.ensures) in
     let room : bytes_for c.set.result.rows + 3 ≤ length c.args.reply.now = reply-fits o.set c.set.result c.size.result m none in
     let some : 1 ≤ c.set.result.rows = omega (arith, ap (λ s. s.rows) c.set.ensures, (g.K.Key.bounded c.args.key.now).0) in
     omega arith
@@ -48,7 +48,7 @@ returns g c =
     let o = c.args.self.now in
     let k : Secret = secret (g.K.Key.sizes c.args.key.now) (g.K.Key.checks c.args.key.now) (g.O.Operator.order c.args.blinding.now) (g.O.Operator.matrix c.args.blinding.now) in
     let m : Lent = lent (length c.args.inverse.now) (length c.args.working.now) (length c.args.reply.now) in
-    let none : first (memory_lines o.set c.set.result c.size.result m) ≡ None = granted-is (first (memory_lines o.set c.set.result c.size.result m)) c.in-default.field-0 (sym c.in-default.is ∙ c.check_memory-fits.ensures) in
+    let none : first (memory_lines o.set c.set.result c.size.result m) ≡ None = granted-is (first (memory_lines o.set c.set.result c.size.result m)) c.in_default.field-0 (sym c.in_default.is ∙ c.check_memory-fits.ensures) in
     let fits : first (memory_lines o.set k.set k.order m) ≡ None = (λ i. first (memory_lines o.set (sym c.set.ensures i) (sym c.size.ensures i) m)) ∙ none in
     let z = c.step.new in
     record {

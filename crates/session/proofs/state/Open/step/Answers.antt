@@ -8,19 +8,19 @@ use Rattle.session.specs.Answers.{Stepped, granted, row_reply, combination_reply
 use Rattle.session.proofs.Steps.{stepped-refused, stepped-as, unread, row_first, combination-first, granted-row, granted-combination}
 use Rattle.session.proofs.state.Open.step.Goals as goal
 
-pub returns-in-err-frame : goal.returns-in-err-frame
-returns-in-err-frame g c =
+pub returns-in_err-frame : goal.returns-in_err-frame
+returns-in_err-frame g c =
     let o = c.args.self.now in
     let n = o.set.rows in
     let p = phase_number o.phase in
     let R = g.O.Operator.matrix c.args.blinding.now in
     let B = blinded (g.K.Key.sizes c.args.key.now).rows R (g.K.Key.checks c.args.key.now) in
     let f = c.args.frame.now in
-    let e = c.in-err-frame.field-0.0 in
+    let e = c.in_err-frame.field-0.0 in
     let x = err_from_is_err_and c.from-residual.result c.from-residual.ensures.1 in
     record {
       done = stepped-refused n R p o.rows c.args.inverse.now (row_in f) c.args.reply.now c.from-residual.result (frame_lines n B p o.rows f) (granted B p o.rows f) e
-          (unread n B p o.rows f e c.in-err-frame.ensures) (x.1 ∙ ap (λ y. Err y) x.2);
+          (unread n B p o.rows f e c.in_err-frame.ensures) (x.1 ∙ ap (λ y. Err y) x.2);
       set = refl;
     }
 
@@ -33,7 +33,7 @@ returns-in-Receiving-Row g c =
     let R = g.O.Operator.matrix c.args.blinding.now in
     let B = blinded (g.K.Key.sizes c.args.key.now).rows R (g.K.Key.checks c.args.key.now) in
     let f = c.args.frame.now in
-    let rd = subst (λ x. Reads (bytes_for n) f (Ok x)) c.in-Receiving-Row.is-1 c.in-ok-frame.ensures in
+    let rd = subst (λ x. Reads (bytes_for n) f (Ok x)) c.in-Receiving-Row.is-1 c.in_ok-frame.ensures in
     let z = c.take_row.new in
     let P : ℕ → List ℕ → Type 0 = λ q b. Stepped n R (unit_lines n B o.rows b) (row_reply o.rows) q o.rows c.args.inverse.now b c.args.reply.now c.take_row.result (phase_number z.self.phase) z.self.rows z.inverse z.reply in
     record {
@@ -53,7 +53,7 @@ returns-in-Receiving-Combination g c =
     let R = g.O.Operator.matrix c.args.blinding.now in
     let B = blinded (g.K.Key.sizes c.args.key.now).rows R (g.K.Key.checks c.args.key.now) in
     let f = c.args.frame.now in
-    let rd = subst (λ x. Reads (bytes_for n) f (Ok x)) c.in-Receiving-Combination.is-1 c.in-ok-frame.ensures in
+    let rd = subst (λ x. Reads (bytes_for n) f (Ok x)) c.in-Receiving-Combination.is-1 c.in_ok-frame.ensures in
     let z = c.take_combination.new in
     let P : ℕ → List ℕ → Type 0 = λ q b. Stepped n R (combination_lines n B b) combination_reply q o.rows c.args.inverse.now (row_in f) c.args.reply.now c.take_combination.result (phase_number z.self.phase) z.self.rows c.args.inverse.now z.reply in
     record {

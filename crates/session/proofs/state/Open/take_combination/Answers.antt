@@ -6,17 +6,17 @@ use Rattle.session.specs.Answers.{Stepped, combination_reply}
 use Rattle.session.proofs.Steps.{refused-is, stepped-refused}
 use Rattle.session.proofs.state.Open.take_combination.Goals as goal
 
-pub returns-in-err-check_combination : goal.returns-in-err-check_combination
-returns-in-err-check_combination g c =
+pub returns-in_err-check_combination : goal.returns-in_err-check_combination
+returns-in_err-check_combination g c =
     let o = c.args.self.now in
     let n = o.set.rows in
     let m = (g.K.Key.sizes c.args.key.now).rows in
     let R = g.O.Operator.matrix c.args.blinding.now in
     let B = blinded m R (g.K.Key.checks c.args.key.now) in
     let v = c.args.v.now in
-    let e = c.in-err-check_combination.field-0.0 in
+    let e = c.in_err-check_combination.field-0.0 in
     let p = err_from_is_err_and c.from-residual.result c.from-residual.ensures.1 in
-    let some : first (combination_lines m B v) ≡ Some e = refused-is (first (combination_lines m B v)) e (sym c.in-err-check_combination.was ∙ c.check_combination.ensures) in
+    let some : first (combination_lines m B v) ≡ Some e = refused-is (first (combination_lines m B v)) e (sym c.in_err-check_combination.was ∙ c.check_combination.ensures) in
     let zero : 0 ≡ phase_number o.phase = sym (ap phase_number c.requires.set.1) in
     let same : first (combination_lines n B v) ≡ Some e = ap (λ k. first (combination_lines k B v)) c.requires.set.0 ∙ some in
     record {

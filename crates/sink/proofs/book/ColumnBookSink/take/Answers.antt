@@ -39,8 +39,8 @@ loop-j-preserved c =
       λ p h. let ne : p ≢ at + j = omega arith in rw get_or-set_other (inv.5 p h),
     )
 
-pub invariant-of-self-in-loop-j : goal.invariant-of-self-in-loop-j
-invariant-of-self-in-loop-j c =
+pub invariant_of-self-in-loop-j : goal.invariant_of-self-in-loop-j
+invariant_of-self-in-loop-j c =
     let s = c.args.self.now in
     let z = c.loop-j.self in
     let inv = c.loop-j.invariant in
@@ -59,7 +59,15 @@ invariant-of-self-in-loop-j c =
     let out : (t + 1 ≤ a) ⊎ (s.size ≤ i) = elim h.3 [ inl p ↦ inl (omega (arith, p, inv.2)) | inr p ↦ inr (omega (arith, p, inv.0)) ] in
     subst (λ n. of_rows (bytes_for n) after a i ≡ 0) (sym inv.0)
     (book-blank s.size t j c.clean_byte.result v ys c.loop-j-test.true fits (c.clean_byte.ensures v refl) a i li out was) in
-    (search rules, (search rules, (search rules, (search rules, (search rules, (search rules, (blank, tt)))))))
+    record {
+      some = search rules;
+      small = search rules;
+      few = search rules;
+      room = search rules;
+      exact = search rules;
+      shut = search rules;
+      blank = blank;
+    }
 
 pub returns : goal.returns
 returns c =

@@ -13,6 +13,6 @@ unfolding of_rows
 returns-then-i-self c =
     let s = c.args.self.now in
     record {
-      value = c.bit-of.ensures.value ∙ sym (cond-true (ltb c.args.i s.size) _ _ (lt-ltb c.args.i s.size c.if-i-self.true));
-      small = c.bit-of.ensures.small;
+      value = c.bit_of.ensures.value ∙ sym (cond-true (ltb c.args.i s.size) _ _ (lt-ltb c.args.i s.size c.if-i-self.true));
+      small = c.bit_of.ensures.small;
     }

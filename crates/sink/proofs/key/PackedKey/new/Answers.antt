@@ -6,10 +6,18 @@ use Rattle.sink.proofs.Rows.{rows-blank}
 use Rattle.sink.proofs.Stores.{made-is-new, refused-is}
 use Rattle.sink.proofs.key.PackedKey.new.Goals as goal
 
-pub invariant-of-result : goal.invariant-of-result
-invariant-of-result c =
+pub invariant_of-result : goal.invariant_of-result
+invariant_of-result c =
     let w = bytes_for c.args.limit in
-    (search rules, (search rules, (search rules, (search rules, (search rules, (search rules, (λ a j h. ap (λ xs. of_rows w xs a j) c.clear.ensures ∙ rows-blank w _ a j, tt)))))))
+    record {
+      some = search rules;
+      small = search rules;
+      few = search rules;
+      room = search rules;
+      exact = search rules;
+      shut = search rules;
+      blank = λ a j h. ap (λ xs. of_rows w xs a j) c.clear.ensures ∙ rows-blank w _ a j;
+    }
 
 pub returns-then-is_ok : goal.returns-then-is_ok
 returns-then-is_ok c =

@@ -43,8 +43,8 @@ loop-i-preserved c =
     λ k l. c.put_bit.ensures k l ∙ ap (λ x. cond (eqb k (t % 8)) x (bit_of (get_or ys (i * w + t / 8) 0) k)) c.get_bit.ensures.value in
     (inv.0, inv.1, inv.2, inv.3, key_step w s.size i t c.put_bit.result v s.bytes.now ys (omega arith) fits put inv.4)
 
-pub invariant-of-self-in-loop-i : goal.invariant-of-self-in-loop-i
-invariant-of-self-in-loop-i c =
+pub invariant_of-self-in-loop-i : goal.invariant_of-self-in-loop-i
+invariant_of-self-in-loop-i c =
     let s = c.args.self.now in
     let z = c.loop-i.self in
     let inv = c.loop-i.invariant in
@@ -64,7 +64,15 @@ invariant-of-self-in-loop-i c =
     let was : of_rows w ys a j ≡ 0 = subst (λ l. of_rows (bytes_for l) ys a j ≡ 0) inv.1 (z.blank a j h) in
     subst (λ l. of_rows (bytes_for l) after a j ≡ 0) (sym inv.1)
     (key-kept w i t c.put_bit.result v ys (omega arith) fits put a j lj (λ p _. omega (arith, h.2, inv.2)) ∙ was) in
-    (search rules, (search rules, (search rules, (search rules, (search rules, (search rules, (blank, tt)))))))
+    record {
+      some = search rules;
+      small = search rules;
+      few = search rules;
+      room = search rules;
+      exact = search rules;
+      shut = search rules;
+      blank = blank;
+    }
 
 pub returns : goal.returns
 returns c =
