@@ -47,6 +47,32 @@ pub record Swapping (n i r : ℕ) (M X : Mat) (k : ℕ) : Type 0 where
   pub second : (j : ℕ) → j < k → j < n → X r j ≡ M i j
   pub rest : (a j : ℕ) → a < n → j < n → (a ≡ i → k ≤ j) → (a ≡ r → k ≤ j) → X a j ≡ M a j
 
+-- one more column exchanged: y goes to row i and x to row r
+pub swapping-more : (n i r : ℕ) (M X Y Z : Mat) (k x y : ℕ) → i < n → r < n → k < n → x ≡ X i k → y ≡ X r k
+    → Y i k ≡ y → ((a b : ℕ) → a < n → b < n → (a ≡ i → b ≡ k → ⊥) → Y a b ≡ X a b)
+    → Z r k ≡ x → ((a b : ℕ) → a < n → b < n → (a ≡ r → b ≡ k → ⊥) → Z a b ≡ Y a b)
+    → Swapping n i r M X k → Swapping n i r M Z (k + 1)
+swapping-more n i r M X Y Z k x y hi hr hk ex ey wy oy wz oz inv =
+    let at-i : X i k ≡ M i k = inv.rest i k hi hk (λ _. omega arith) (λ _. omega arith) in
+    let at-r : X r k ≡ M r k = inv.rest r k hr hk (λ _. omega arith) (λ _. omega arith) in
+    let off : (a j : ℕ) → a < n → j < n → (j ≡ k → ⊥) → Z a j ≡ X a j = λ a j ha hj d. oz a j ha hj (λ _ f. d f) ∙ oy a j ha hj (λ _ f. d f) in
+    record {
+      first = λ j h hj. elim (cases_eq j k) [
+        | inl d ↦ elim (cases_eq i r) [
+          | inl e ↦ ap₂ Z e d ∙ wz ∙ ex ∙ at-i ∙ ap₂ M e (sym d)
+          | inr ne ↦ ap (Z i) d ∙ oz i k hi hk (λ e _. ne e) ∙ wy ∙ ey ∙ at-r ∙ ap (M r) (sym d)
+        ]
+        | inr d ↦ off i j hi hj d ∙ inv.first j (omega arith) hj
+      ];
+      second = λ j h hj. elim (cases_eq j k) [
+        | inl d ↦ ap (Z r) d ∙ wz ∙ ex ∙ at-i ∙ ap (M i) (sym d)
+        | inr d ↦ off r j hr hj d ∙ inv.second j (omega arith) hj
+      ];
+      rest = λ a j ha hj p q.
+          oz a j ha hj (λ f g. let m = q f in omega arith) ∙ oy a j ha hj (λ f g. let m = p f in omega arith)
+          ∙ inv.rest a j ha hj (λ f. let m = p f in omega arith) (λ f. let m = q f in omega arith);
+    }
+
 pub swapping-all : (n i r : ℕ) (M X : Mat) (k : ℕ) → n ≤ k → Swapping n i r M X k → Same n X (swap_rows i r M)
 swapping-all n i r M X k h inv a j ha hj =
     elim (cases_eq a i) [

@@ -6,7 +6,7 @@ use Rattle.block.specs.Slots.{rows_of, column_word}
 use Rattle.block.proofs.Shares.{known-degree}
 use Rattle.block.proofs.Actions.{stacked-sum}
 use Rattle.block.proofs.column.write_sum.Goals as goal
-use Rattle.block.proofs.column.write_sum.Goals.{then-get-bit-eq1, else-get-bit-eq1}
+use Rattle.block.proofs.column.write_sum.Goals.{then-get_bit-eq1, else-get_bit-eq1}
 
 pub loop-j-init : goal.loop-j-init
 unfolding sum

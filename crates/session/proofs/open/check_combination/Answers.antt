@@ -17,7 +17,7 @@ returns-in_err-check_some g c =
     let same : c.set-n.result.rows ≡ n = ap (λ (z : Sizes). z.rows) c.set-n.ensures in
     let some : first (line (not (ltb (leading n v) n)) Zero ∷ []) ≡ Some e =
     refused-is (first (line (not (ltb (leading n v) n)) Zero ∷ [])) e (sym c.in_err-check_some.was ∙ some-checked c.set-n.result.rows n v c.check_some.result same c.check_some.ensures) in
-    let p = err_from_is_err_and c.from-residual.result c.from-residual.ensures.1 in
+    let p = err_from_is_err_and c.from_residual.result c.from_residual.ensures.1 in
     p.1 ∙ ap (λ x. Err x) p.2
     ∙ ap refused_by (sym (first-kept (line (not (ltb (leading n v) n)) Zero ∷ []) (line (ltb (nonzero n B v) n) (Nonzero (nonzero n B v)) ∷ []) e some))
 

@@ -17,9 +17,9 @@ returns-in_err-frame g c =
     let B = blinded (g.K.Key.sizes c.args.key.now).rows R (g.K.Key.checks c.args.key.now) in
     let f = c.args.frame.now in
     let e = c.in_err-frame.field-0.0 in
-    let x = err_from_is_err_and c.from-residual.result c.from-residual.ensures.1 in
+    let x = err_from_is_err_and c.from_residual.result c.from_residual.ensures.1 in
     record {
-      done = stepped-refused n R p o.rows c.args.inverse.now (row_in f) c.args.reply.now c.from-residual.result (frame_lines n B p o.rows f) (granted B p o.rows f) e
+      done = stepped-refused n R p o.rows c.args.inverse.now (row_in f) c.args.reply.now c.from_residual.result (frame_lines n B p o.rows f) (granted B p o.rows f) e
           (unread n B p o.rows f e c.in_err-frame.ensures) (x.1 ∙ ap (λ y. Err y) x.2);
       set = refl;
     }

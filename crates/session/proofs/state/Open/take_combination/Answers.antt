@@ -15,13 +15,13 @@ returns-in_err-check_combination g c =
     let B = blinded m R (g.K.Key.checks c.args.key.now) in
     let v = c.args.v.now in
     let e = c.in_err-check_combination.field-0.0 in
-    let p = err_from_is_err_and c.from-residual.result c.from-residual.ensures.1 in
+    let p = err_from_is_err_and c.from_residual.result c.from_residual.ensures.1 in
     let some : first (combination_lines m B v) ≡ Some e = refused-is (first (combination_lines m B v)) e (sym c.in_err-check_combination.was ∙ c.check_combination.ensures) in
     let zero : 0 ≡ phase_number o.phase = sym (ap phase_number c.requires.set.1) in
     let same : first (combination_lines n B v) ≡ Some e = ap (λ k. first (combination_lines k B v)) c.requires.set.0 ∙ some in
     record {
       done = λ inverse s.
-          subst (λ q. Stepped n R (combination_lines n B v) combination_reply 0 o.rows inverse s c.args.reply.now c.from-residual.result q o.rows inverse c.args.reply.now) zero
-          (stepped-refused n R 0 o.rows inverse s c.args.reply.now c.from-residual.result (combination_lines n B v) combination_reply e same (p.1 ∙ ap (λ x. Err x) p.2));
+          subst (λ q. Stepped n R (combination_lines n B v) combination_reply 0 o.rows inverse s c.args.reply.now c.from_residual.result q o.rows inverse c.args.reply.now) zero
+          (stepped-refused n R 0 o.rows inverse s c.args.reply.now c.from_residual.result (combination_lines n B v) combination_reply e same (p.1 ∙ ap (λ x. Err x) p.2));
       set = refl;
     }
