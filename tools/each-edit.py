@@ -30,7 +30,7 @@ def main():
     if len(sys.argv) < 2:
         sys.exit(__doc__)
     copy = pathlib.Path(tempfile.mkdtemp()) / "repository"
-    shutil.copytree(root, copy, ignore=shutil.ignore_patterns(".git", "must-fail"))
+    shutil.copytree(root, copy, ignore=shutil.ignore_patterns(".git", "must-fail", "out"))
     for crate in sys.argv[1:]:
         place = copy / "crates" / crate / "must-fail"
         place.mkdir()
