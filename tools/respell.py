@@ -21,23 +21,32 @@ WORDS = """
     toldSolving unitAnd unitLines withColumn
 """
 
+# Words of specs/ whose dash joins no two names.
+JOINED = """
+    sum-assoc no-left no-right two-sided at-phase only-left only-right sizes-bounded check-bits
+    pair-bounded
+"""
+
 
 def snake(word):
     if word == "getD":
         return "get_or"
-    return re.sub("(?<=[a-z0-9])([A-Z])", lambda found: "_" + found.group(1).lower(), word)
+    return re.sub("(?<=[a-z0-9])([A-Z])", lambda found: "_" + found.group(1).lower(), word.replace("-", "_"))
 
 
 def main():
     root = pathlib.Path(__file__).resolve().parent.parent
-    names = {word: snake(word) for word in WORDS.split()}
-    known = re.compile(r"(?<![\w'])(" + "|".join(names) + r")(?![\w'])")
-    turned = [*root.glob("crates/*/src/**/*.rt"), *root.glob("crates/**/*.antt"), *root.glob("crates/*/must-fail/*.edit"), *root.glob("docs/*.md"), root / "README.md"]
-    for path in turned:
+    words = re.compile(r"(?<![\w'])(" + "|".join(WORDS.split()) + r")(?![\w'])")
+    joined = re.compile(r"(?<![\w'-])(" + "|".join(JOINED.split()) + r")(?![\w'-])")
+    crates = [*root.glob("crates/*/src/**/*.rt"), *root.glob("crates/**/*.antt"), *root.glob("crates/*/must-fail/*.edit")]
+    pages = [*root.glob("docs/*.md"), root / "README.md"]
+    for path in crates + pages:
         if "out" in path.relative_to(root).parts:
             continue
         text = path.read_text()
-        new = known.sub(lambda found: names[found.group(1)], text)
+        new = words.sub(lambda found: snake(found.group(1)), text)
+        if path in crates:
+            new = joined.sub(lambda found: snake(found.group(1)), new)
         if new != text:
             path.write_text(new)
 

@@ -25,9 +25,9 @@ column_word s j i = share s.set.m s.set.f s.set.t (λ k. slice_index s.goppa k) 
 abbrev pub column_crossed : KeySlot → List ℕ → ℕ → ℕ
 column_crossed s words j = crossed s.set.m s.set.f (length words) words (slice_index s.support j) (slice_index s.inverses j)
 
-pub sizes-bounded : (s : KeySlot) → (0 < (sizes_of s).rows) × ((sizes_of s).rows ≤ 1664) × ((sizes_of s).rest ≤ 8192)
-sizes-bounded s = (s.set.order, s.set.rows, omega (arith, s.set.long))
+pub sizes_bounded : (s : KeySlot) → (0 < (sizes_of s).rows) × ((sizes_of s).rows ≤ 1664) × ((sizes_of s).rest ≤ 8192)
+sizes_bounded s = (s.set.order, s.set.rows, omega (arith, s.set.long))
 
-pub check-bits : (s : KeySlot) → Els bits (check_matrix s)
+pub check_bits : (s : KeySlot) → Els bits (check_matrix s)
 unfolding checks
-check-bits s i j = omega arith
+check_bits s i j = omega arith

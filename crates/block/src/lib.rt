@@ -4,7 +4,7 @@
 #![tactic(auto)]
 
 ghost use Rattle.goppa.specs.Loading.{check_matrix};
-ghost use Rattle.block.specs.Slots.{rows_of, sizes_of, sizes-bounded, check-bits};
+ghost use Rattle.block.specs.Slots.{rows_of, sizes_of, sizes_bounded, check_bits};
 
 mod column;
 mod row;
@@ -53,9 +53,9 @@ impl Key for SlotKey<'_> {
 
     ghost checks = { λ s. check_matrix s.slot.now };
 
-    ghost bounded = { λ s. sizes-bounded s.slot.now };
+    ghost bounded = { λ s. sizes_bounded s.slot.now };
 
-    ghost elements = { λ s. check-bits s.slot.now };
+    ghost elements = { λ s. check_bits s.slot.now };
 
     fn set(&self) -> Sizes {
         let set = self.slot.set;

@@ -11,7 +11,7 @@ pub record Arith : Type 0 where
   pub inv : ℕ → ℕ
   -- the sum: closed, associative, commutative, 0 is neutral, x + x = 0
   pub sum_lt : (x y : ℕ) → x < 2 ^ width → y < 2 ^ width → bit_xor x y < 2 ^ width
-  pub sum-assoc : (x y z : ℕ) → bit_xor (bit_xor x y) z ≡ bit_xor x (bit_xor y z)
+  pub sum_assoc : (x y z : ℕ) → bit_xor (bit_xor x y) z ≡ bit_xor x (bit_xor y z)
   pub sum_comm : (x y : ℕ) → bit_xor x y ≡ bit_xor y x
   pub sum-zero : (x : ℕ) → bit_xor x 0 ≡ x
   pub sum_self : (x : ℕ) → bit_xor x x ≡ 0

@@ -139,8 +139,8 @@ module _ (F : Arith) where
         vanish = λ j hj. sum-cong n _ _ (λ l hl. ap (λ x. F.mul x (M l j)) (at-u l hl)) ∙ d.vanish j hj;
       } in
       record {
-        no-left = λ X hx e. no-dependence F n M X u hu (left-is-right F n X M hx hm e) d';
-        no-right = λ X hx e. no-dependence F n M X u hu e d';
+        no_left = λ X hx e. no-dependence F n M X u hu (left-is-right F n X M hx hm e) d';
+        no_right = λ X hx e. no-dependence F n M X u hu e d';
       }
 
   reblind : (n : ℕ) (H H' S' R : Mat) → Els F H' → LeftInverse F n H' S' → TheOnly n n (SameBlinded F n R H H') (times F n (times F n R H) S')
@@ -181,7 +181,7 @@ module _ (F : Arith) where
   inverses = record {
     associates = times-assoc F;
     sides = sides;
-    two-sided = λ n M S hm inv. left-is-right F n S M inv.elements hm inv.undoes;
+    two_sided = λ n M S hm inv. left-is-right F n S M inv.elements hm inv.undoes;
     unique = λ n M S S' hm inv inv'.
         inverses-agree F n S M S' inv.elements inv'.elements inv.undoes (left-is-right F n S' M inv'.elements hm inv'.undoes);
     decided = λ n M hm. elim (decided F n M hm) [

@@ -36,8 +36,8 @@ pub record LeftInverse (F : Arith) (n : ℕ) (M S : Mat) : Type 0 where
 
 -- no matrix undoes M, from the left or from the right
 pub record Singular (F : Arith) (n : ℕ) (M : Mat) : Type 0 where
-  pub no-left : (X : Mat) → Els F X → Same n (times F n X M) delta → ⊥
-  pub no-right : (X : Mat) → Els F X → Same n (times F n M X) delta → ⊥
+  pub no_left : (X : Mat) → Els F X → Same n (times F n X M) delta → ⊥
+  pub no_right : (X : Mat) → Els F X → Same n (times F n M X) delta → ⊥
 
 -- R' blinds the block H' to what R blinds H to
 pub record SameBlinded (F : Arith) (n : ℕ) (R H H' R' : Mat) : Type 0 where
@@ -51,7 +51,7 @@ pub record Inverses (F : Arith) : Type 0 where
   -- (v A) w = v (A w)
   pub sides : (n : ℕ) (v : ℕ → ℕ) (A : Mat) (w : ℕ → ℕ) → sum n (λ k. F.mul (apply_row F n A v k) (w k)) ≡ sum n (λ k. F.mul (v k) (apply F n A w k))
   -- a left inverse is a right inverse
-  pub two-sided : (n : ℕ) (M S : Mat) → Els F M → LeftInverse F n M S → Same n (times F n M S) delta
+  pub two_sided : (n : ℕ) (M S : Mat) → Els F M → LeftInverse F n M S → Same n (times F n M S) delta
   -- there is one at most
   pub unique : (n : ℕ) (M S S' : Mat) → Els F M → LeftInverse F n M S → LeftInverse F n M S' → Same n S S'
   -- there is one, or a nonzero row vector that the matrix sends to zero

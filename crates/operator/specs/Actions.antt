@@ -49,5 +49,5 @@ abbrev pub pair_matrix : ℕ → Mat → ℕ → Mat → Mat
 pair_matrix m a n b = cond (m == n) (times bits m a b) zeros
 
 -- a pair is as small as its first operator
-pub pair-bounded : (m n : ℕ) → (0 < m) × (m ≤ 1664) → (0 < pair_order m n) × (pair_order m n ≤ 1664)
-pair-bounded m n h = elim (m == n) as (λ b. (0 < cond b m 1) × (cond b m 1 ≤ 1664)) [ true ↦ h | false ↦ (omega arith, omega arith) ]
+pub pair_bounded : (m n : ℕ) → (0 < m) × (m ≤ 1664) → (0 < pair_order m n) × (pair_order m n ≤ 1664)
+pair_bounded m n h = elim (m == n) as (λ b. (0 < cond b m 1) × (cond b m 1 ≤ 1664)) [ true ↦ h | false ↦ (omega arith, omega arith) ]

@@ -4,7 +4,7 @@ ghost use Rattle.galois.specs.Bit.{bits};
 ghost use Rattle.matrix.specs.Matrix.{times};
 ghost use Rattle.bits.specs.Bits.{bytes_for};
 ghost use Rattle.guard.specs.Zero.{AllZero};
-ghost use Rattle.operator.specs.Actions.{ColumnAction, RowAction, pair_check, pair_order, pair_matrix, pair-bounded, zeros};
+ghost use Rattle.operator.specs.Actions.{ColumnAction, RowAction, pair_check, pair_order, pair_matrix, pair_bounded, zeros};
 
 use super::fault::{MakeFault, OperatorFault};
 use super::{Operator, check_lengths};
@@ -38,7 +38,7 @@ impl<A: Operator, B: Operator> Operator for Pair<A, B> {
 
     ghost matrix = { λ p. pair_matrix (A.order p.first) (A.matrix p.first) (B.order p.second) (B.matrix p.second) };
 
-    ghost bounded = { λ p. pair-bounded (A.order p.first) (B.order p.second) (A.bounded p.first) };
+    ghost bounded = { λ p. pair_bounded (A.order p.first) (B.order p.second) (A.bounded p.first) };
 
     fn size(&self) -> usize {
         let size = self.first.size();

@@ -27,7 +27,7 @@ module _ (own : Sizes) (k : Secret) (phase taken : ℕ) (inverse : List ℕ) (m 
         long = ap length w;
         bytes = ap (λ y. laid y old) w;
         rows = ap (rows_after taken) w;
-        at-phase = ap (phase_after k.set.rows phase taken) w;
+        at_phase = ap (phase_after k.set.rows phase taken) w;
         memory = ap (λ y. inverse_after k.set.rows k.blinding taken (row_in f) y inverse) w;
       }
 
@@ -49,7 +49,7 @@ module _ (own : Sizes) (k : Secret) (phase taken : ℕ) (inverse : List ℕ) (m 
           long = none.1 ∙ ap (λ o. length (either o r)) (sym none.0) ∙ ap length reply-is;
           bytes = step.bytes ∙ ap (λ o. laid_unless o r old) none.0 ∙ ap (λ o. laid (either o r) old) (sym none.0) ∙ ap (λ y. laid y old) reply-is;
           rows = step.rows ∙ ap (rows_after taken) reply-is;
-          at-phase = step.at-phase ∙ ap (phase_after k.set.rows phase taken) reply-is;
+          at_phase = step.at_phase ∙ ap (phase_after k.set.rows phase taken) reply-is;
           memory = step.memory ∙ ap (λ y. inverse_after k.set.rows k.blinding taken (row_in f) y inverse) reply-is;
         }
 
@@ -68,6 +68,6 @@ module _ (own : Sizes) (k : Secret) (phase taken : ℕ) (inverse : List ℕ) (m 
           long = is-long ∙ ap (λ o. length (either o r)) (sym some) ∙ ap length reply-is;
           bytes = is-told ∙ ap (laid (refusal_reply e)) kept ∙ ap (λ o. laid (either o r) old) (sym some) ∙ ap (λ y. laid y old) reply-is;
           rows = step.rows ∙ ap (rows_after taken) reply-is;
-          at-phase = step.at-phase ∙ ap (phase_after k.set.rows phase taken) reply-is;
+          at_phase = step.at_phase ∙ ap (phase_after k.set.rows phase taken) reply-is;
           memory = step.memory ∙ ap (λ y. inverse_after k.set.rows k.blinding taken (row_in f) y inverse) reply-is;
         }

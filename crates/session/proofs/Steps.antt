@@ -49,7 +49,7 @@ module _ (n : ℕ) (R : Mat) (phase taken : ℕ) (inverse s old : List ℕ) (a :
     result = f ∙ ap (λ o. tried o r) (sym is);
     bytes = ap (λ o. laid_unless o r old) (sym is);
     rows = ap (λ o. rows_after taken (either o r)) (sym is);
-    at-phase = ap (λ o. phase_after n phase taken (either o r)) (sym is);
+    at_phase = ap (λ o. phase_after n phase taken (either o r)) (sym is);
     memory = ap (λ o. inverse_after n R taken s (either o r) inverse) (sym is);
   }
 
@@ -62,7 +62,7 @@ module _ (n : ℕ) (R : Mat) (phase taken : ℕ) (inverse s old : List ℕ) (a :
         result = x.result ∙ (λ i. tried (p i) (e i));
         bytes = x.bytes ∙ (λ i. laid_unless (p i) (e i) old);
         rows = x.rows ∙ ap (rows_after taken) w;
-        at-phase = x.at-phase ∙ ap (phase_after n phase taken) w;
+        at_phase = x.at_phase ∙ ap (phase_after n phase taken) w;
         memory = x.memory ∙ ap (λ y. inverse_after n R taken s y inverse) w;
       }
 

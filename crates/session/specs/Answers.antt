@@ -107,7 +107,7 @@ pub record Stepped (n : ℕ) (R : Mat) (ls : List Line) (r : List ℕ) (phase ta
   pub result : a ≡ tried (first ls) r
   pub bytes : reply ≡ laid_unless (first ls) r lent
   pub rows : taken' ≡ rows_after taken (either (first ls) r)
-  pub at-phase : phase' ≡ phase_after n phase taken (either (first ls) r)
+  pub at_phase : phase' ≡ phase_after n phase taken (either (first ls) r)
   pub memory : inverse' ≡ inverse_after n R taken s (either (first ls) r) inverse
 
 -- what an answering gives and leaves
@@ -116,7 +116,7 @@ pub record Answered (own : Sizes) (k : Secret) (phase taken : ℕ) (inverse : Li
   pub long : a.length ≡ length (reply_of own k.set k.order (product k) phase taken m f)
   pub bytes : reply ≡ laid (reply_of own k.set k.order (product k) phase taken m f) lent
   pub rows : taken' ≡ rows_after taken (reply_of own k.set k.order (product k) phase taken m f)
-  pub at-phase : phase' ≡ phase_after k.set.rows phase taken (reply_of own k.set k.order (product k) phase taken m f)
+  pub at_phase : phase' ≡ phase_after k.set.rows phase taken (reply_of own k.set k.order (product k) phase taken m f)
   pub memory : inverse' ≡ inverse_after k.set.rows k.blinding taken (row_in f) (reply_of own k.set k.order (product k) phase taken m f) inverse
 
 -- public column c: the inverse memory times column n + c of the check matrix

@@ -38,8 +38,8 @@ module _ (F : Arith) (n : ℕ) where
       record {
         left = left;
         right = right;
-        only-left = λ Z hz e. inverses-agree F n Z M Y hz hy e right;
-        only-right = λ Z hz e. back (inverses-agree F n Y M Z hy hz left e);
+        only_left = λ Z hz e. inverses-agree F n Z M Y hz hy e right;
+        only_right = λ Z hz e. back (inverses-agree F n Y M Z hy hz left e);
       }
 
   pub short-at-end : (M X Y : Mat) (r : ℕ) → Els F M → Els F Y → State F n M X Y n r → r < n → Vanishing F n M Y r

@@ -28,8 +28,8 @@ pub record Fit {X : Type 0} (n m : ℕ) (xs ys : List X) : Type 0 where
 pub record TheInverse (F : Arith) (n : ℕ) (M Y : Mat) : Type 0 where
   pub left : Same n (times F n Y M) delta
   pub right : Same n (times F n M Y) delta
-  pub only-left : (X : Mat) → Els F X → Same n (times F n X M) delta → Same n X Y
-  pub only-right : (X : Mat) → Els F X → Same n (times F n M X) delta → Same n X Y
+  pub only_left : (X : Mat) → Els F X → Same n (times F n X M) delta → Same n X Y
+  pub only_right : (X : Mat) → Els F X → Same n (times F n M X) delta → Same n X Y
 
 -- row r of Y is a combination of the rows of M that vanishes, so M has no inverse
 pub record Vanishing (F : Arith) (n : ℕ) (M Y : Mat) (r : ℕ) : Type 0 where
