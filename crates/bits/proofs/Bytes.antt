@@ -1,16 +1,14 @@
 -- Sums of bits, eight at a time. Assumes nothing.
-use Rattle.std.proofs.Common.{◌≡◌, ℕ, zero, suc, ◌+◌, ◌-◌, ◌*◌, ◌/◌, ◌%◌, ◌^◌, ◌<◌, ◌≤◌, min, Bool, true, false, cond, ◌&&◌, eqb, ltb, ◌≢◌, ◌⊎◌, List, length, get_or, set, sym, refl, ap, ◌∙◌, ap₂, inl, inr, add-zero, add_assoc, add-suc, mod-eq_of_lt, suc-mul, mul_comm, one-mul, zero-mul, add-one, arith, length-set, get_or-set_other, get_or-set_same}
-use native.Mathlib.Nat.{zero-div, div-add-mod}
-use lib.Bits.{bit_xor, bit_and, and_zero_l, and_zero_r, xor_shr, xor_mod, and_shr, and_step, xor_assoc, xor_zero_r, xor_zero_l}
+use Rattle.std.proofs.Common.{◌≡◌, ℕ, zero, suc, ◌+◌, ◌-◌, ◌*◌, ◌/◌, ◌%◌, ◌^◌, ◌<◌, ◌≤◌, min, Bool, true, false, cond, ◌&&◌, eqb, ltb, ◌≢◌, List, length, get_or, set, sym, refl, ap, ◌∙◌, ap₂, inl, inr, add-zero, add-suc, mod-eq_of_lt, suc-mul, one-mul, zero-mul, add-one, arith, length-set, get_or-set_other, get_or-set_same}
+use lib.Bits.{bit_xor, bit_and, and_zero_l, and_zero_r, xor_shr, xor_mod, and_shr, and_step, xor_assoc, xor_zero_r}
 use Rattle.std.proofs.lemmas.List.{get_or_past}
 use Rattle.std.proofs.lemmas.Nat.{div-mul-add, mod-mul-add}
 use Rattle.std.proofs.lemmas.Bool.{cases_lt, cases_eq, eqb-true, and_parts, cond-true, cond-false, lt-ltb, le-ltb}
-use Rattle.galois.specs.Arith.{Arith}
-use Rattle.matrix.specs.Matrix.{Mat, sum, times, apply, apply_row}
+use Rattle.matrix.specs.Matrix.{sum, apply_row}
 use Rattle.galois.specs.Bit.{bits, both}
-use Rattle.bits.specs.Bits.{bytes_for, bit_of, bits_of, bits_from, of_rows, low, pad_bit, byte_at, pack}
+use Rattle.bits.specs.Bits.{bytes_for, bit_of, bits_of, bits_from, of_rows, pad_bit, byte_at, pack}
 use Rattle.matrix.proofs.Sums.{sum-cong, sum-zero, sum-xor, sum-swap}
-use Rattle.bits.proofs.Packs.{low_bit, low-mod, low-cong, bit-zero, bit-lt, pack-from-bytes, pad-in, pad-out, funext, bits-lt, pack-cong}
+use Rattle.bits.proofs.Packs.{low_bit, low-mod, low-cong, bit-zero, bit-lt, pack-from-bytes, bits-lt, pack-cong}
 
 pub bit-xor : (a b k : ℕ) → bit_of (bit_xor a b) k ≡ bit_xor (bit_of a k) (bit_of b k)
 unfolding bit_of

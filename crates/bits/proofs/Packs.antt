@@ -1,15 +1,15 @@
 -- A vector comes back from its bytes. Assumes nothing.
-use Rattle.std.proofs.Common.{◌≡◌, ℕ, zero, suc, ◌+◌, ◌*◌, ◌/◌, ◌%◌, ◌^◌, ◌<◌, ◌≤◌, Bool, true, false, cond, eqb, ltb, ◌⊎◌, List, map, length, get_or, sym, refl, ap, ◌∙◌, subst, ap₂, inl, inr, pow-suc, div-one, add-one, one-add, arith, pow_pos, shr-shr}
-use native.Mathlib.Nat.{div-add-mod, mod-one, zero-div, zero-mod}
+use Rattle.std.proofs.Common.{◌≡◌, ℕ, zero, suc, ◌+◌, ◌*◌, ◌/◌, ◌%◌, ◌^◌, ◌<◌, ◌≤◌, true, false, cond, ltb, List, map, length, get_or, sym, refl, ap, ◌∙◌, ap₂, inl, inr, pow-suc, div-one, add-one, one-add, arith, pow_pos, shr-shr}
+use native.Mathlib.Nat.{div-add-mod, mod-one, zero-div}
 use lib.Pow.{mod-pow-add}
-use lib.Bits.{bit_xor, xor_lt}
+use lib.Bits.{xor_lt}
 use Rattle.std.specs.List.{range_with_len}
 use Rattle.std.proofs.lemmas.Bool.{cases_lt, cond-true, cond-false, lt-ltb, le-ltb}
 use Rattle.std.proofs.lemmas.List.FromFn.{length-map-range_with_len, get_or-map-range_with_len, fill_by_all}
 use Rattle.std.proofs.lemmas.List.{get_or_past}
 use Rattle.galois.specs.Arith.{Arith}
 use Rattle.matrix.specs.Matrix.{Mat, sum, times, apply, apply_row}
-use Rattle.galois.specs.Bit.{bits, both}
+use Rattle.galois.specs.Bit.{bits}
 use Rattle.bits.specs.Bits.{bytes_for, bit_of, bits_of, low, pad_bit, byte_at, pack}
 use Rattle.matrix.proofs.Sums.{sum-cong, row-assoc}
 

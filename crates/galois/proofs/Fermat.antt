@@ -1,18 +1,15 @@
 -- A nonzero element times its inverse is 1, from two computed checks of f.
 use mathlib.Core.Path.{◌≡◌, refl, sym, ap, ap₂, ◌∙◌, subst}
 use mathlib.Core.Bool.{Bool, true, false, ◌&&◌, ◌||◌, not}
-use mathlib.Core.List.{List, [], ◌∷◌}
-use mathlib.Core.Logic.{◌⊎◌, inl, inr}
-use Prim.Native.Nat.{ℕ, zero, suc, ◌+◌, ◌-◌, ◌*◌, ◌/◌, ◌%◌, ◌^◌, ◌<◌, ◌≤◌}
-use native.Mathlib.Nat.{mod-lt, mod-eq_of_lt, zero-mul, add-zero}
+use Prim.Native.Nat.{ℕ, zero, suc, ◌-◌, ◌/◌, ◌^◌, ◌<◌}
+use native.Mathlib.Nat.{mod-eq_of_lt}
 use native.Mathlib.Decide.{ℕ_discrete}
 use native.Mathlib.Omega.{arith}
 use lib.Dec.{T, eqb, ltb, eqb→eq, eqb_refl, ltb→lt}
-use lib.Pow.{pow_pos, pow-lt}
-use lib.Bits.{bit_xor, xor_assoc, xor_comm, xor_self, xor_zero_r, xor_lt, xor_shr, xor_mod, xor_shifted}
-use Rattle.galois.specs.Gf.{shifted, times_z, times, chain, inverse}
-use Rattle.galois.proofs.Linear.{xor4, Linear, linear-zero, digit-cases, digits-times, two_pos, basis, twice-xor}
-use Rattle.galois.proofs.Ring.{times-lt, times-comm, times-low, times-assoc, times-one, times-linear, times_zero}
+use lib.Bits.{bit_xor, xor_assoc, xor_self}
+use Rattle.galois.specs.Gf.{times, chain, inverse}
+use Rattle.galois.proofs.Linear.{Linear, basis}
+use Rattle.galois.proofs.Ring.{times-lt, times-comm, times-assoc, times-one, times-linear, times_zero}
 
 -- the test g holds of each number below n
 abbrev pub all_below : (ℕ → Bool) → ℕ → Bool

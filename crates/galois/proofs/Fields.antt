@@ -1,10 +1,9 @@
 -- The fields of the library: the two tests of each reducing polynomial are computed.
-use mathlib.Core.Path.{◌≡◌, refl, ap, ap₂, ◌∙◌}
-use Prim.Native.Nat.{ℕ, ◌%◌, ◌^◌}
+use mathlib.Core.Path.{refl}
 use native.Mathlib.Omega.{arith}
 use lib.Dec.{T}
 use Rattle.galois.specs.Arith.{Arith}
-use Rattle.galois.specs.Gf.{shifted, times_z, times, inverse_of}
+use Rattle.galois.specs.Gf.{shifted, times_z, times}
 use Rattle.galois.proofs.Fermat.{frobenius, fixes, only_bits}
 use Rattle.galois.proofs.Shown.{galois}
 

@@ -1,11 +1,11 @@
 -- Multiplication as a sum of powers of one linear map.
-use mathlib.Core.Path.{◌≡◌, refl, sym, ap, ap₂, ◌∙◌, subst}
-use Prim.Native.Nat.{ℕ, zero, suc, ◌+◌, ◌-◌, ◌*◌, ◌/◌, ◌%◌, ◌^◌, ◌<◌, ◌≤◌}
-use native.Mathlib.Nat.{mod-lt, mul_comm, zero-mul, one-mul, mul-zero, add-zero, add_comm}
+use mathlib.Core.Path.{◌≡◌, refl, sym, ap, ap₂, ◌∙◌}
+use Prim.Native.Nat.{ℕ, zero, suc, ◌*◌, ◌/◌, ◌%◌, ◌^◌, ◌<◌}
+use native.Mathlib.Nat.{mod-lt, zero-mul, one-mul, add-zero, add_comm}
 use native.Mathlib.Numerals.{add-one}
 use lib.Pow.{pow_pos, split, shr_lt}
 use native.Mathlib.Omega.{arith}
-use lib.Bits.{bit_xor, xor_assoc, xor_comm, xor_self, xor_zero_r, xor_lt, xor_block, xor_shifted}
+use lib.Bits.{bit_xor, xor_assoc, xor_comm, xor_self, xor_zero_r, xor_block, xor_shifted}
 use Rattle.galois.specs.Gf.{shifted}
 
 -- exclusive or, regrouped

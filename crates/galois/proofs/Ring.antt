@@ -1,14 +1,14 @@
 -- The product modulo f: a commutative ring, for every f of degree m.
 use mathlib.Core.Path.{◌≡◌, refl, sym, ap, ap₂, ◌∙◌, subst}
 use Prim.Native.Nat.{ℕ, zero, suc, ◌+◌, ◌-◌, ◌*◌, ◌/◌, ◌%◌, ◌^◌, ◌<◌, ◌≤◌}
-use native.Mathlib.Nat.{mod-lt, mod-eq_of_lt, mod-mod, div-eq_of_lt, mul_comm, mul_assoc, add-mul, zero-mul, one-mul, mul-zero, mul-one, add-zero, add_comm, add-suc, mod-one, pow-suc, zero-mod}
+use native.Mathlib.Nat.{mod-lt, mod-eq_of_lt, mod-mod, div-eq_of_lt, mul_comm, mul_assoc, add-mul, zero-mul, one-mul, mul-one, add_comm, mod-one, pow-suc}
 use native.Mathlib.Numerals.{add-one}
 use native.Mathlib.Omega.{arith}
 use lib.Arith.{mod-mul}
 use lib.Pow.{pow_pos, split, shr_lt, pow-lt}
-use lib.Bits.{bit_xor, xor_assoc, xor_comm, xor_self, xor_zero_r, xor_lt, xor_block, xor_shifted, xor_shr, xor_mod}
+use lib.Bits.{bit_xor, xor_comm, xor_self, xor_zero_r, xor_lt, xor_shifted, xor_shr, xor_mod}
 use Rattle.galois.specs.Gf.{shifted, times_z, times}
-use Rattle.galois.proofs.Linear.{xor4, Linear, linear-zero, digit-cases, digit-map, digits-times, twice-xor, two_pos, shifted-linear, shifted-z, shifted-swap}
+use Rattle.galois.proofs.Linear.{xor4, Linear, linear-zero, digit-cases, digits-times, twice-xor, two_pos, shifted-linear, shifted-swap}
 
 pub z-linear : (m f : ℕ) → Linear (times_z m f)
 unfolding times_z

@@ -1,16 +1,15 @@
 -- The laws of every field, from the two computed tests of its reducing polynomial.
-use mathlib.Core.Path.{◌≡◌, refl, sym, ap, ap₂, ◌∙◌, subst}
-use mathlib.Core.Bool.{Bool, true, false, cond, not, ◌||◌}
-use Prim.Native.Nat.{ℕ, zero, suc, ◌+◌, ◌-◌, ◌*◌, ◌/◌, ◌%◌, ◌^◌, ◌<◌, ◌≤◌}
+use mathlib.Core.Path.{◌≡◌, refl, sym, ap, ap₂, ◌∙◌}
+use mathlib.Core.Bool.{Bool, true, false, cond}
+use Prim.Native.Nat.{ℕ, zero, suc, ◌/◌, ◌%◌, ◌^◌, ◌<◌}
 use native.Mathlib.Nat.{mod-eq_of_lt, zero-mod}
-use native.Mathlib.Omega.{arith}
 use lib.Dec.{T, eqb, eqb-suc-zero}
 use lib.Pow.{pow_pos, pow-lt}
 use lib.Bits.{bit_xor, xor_assoc, xor_comm, xor_self, xor_zero_r, xor_lt}
-use Rattle.galois.specs.Gf.{shifted, times_z, times, chain, inverse, inverse_of}
+use Rattle.galois.specs.Gf.{times, inverse, inverse_of}
 use Rattle.galois.specs.Arith.{Arith}
-use Rattle.galois.proofs.Ring.{times-lt, times-comm, times-low, times-assoc, times-one, times-linear, times_zero}
-use Rattle.galois.proofs.Fermat.{all_below, below_all, fixes, only_bits, frobenius, nonzero-inverse, inverse-lt}
+use Rattle.galois.proofs.Ring.{times-lt, times-comm, times-low, times-assoc, times-one, times-linear}
+use Rattle.galois.proofs.Fermat.{fixes, only_bits, nonzero-inverse, inverse-lt}
 
 eqb-zero : (x : ℕ) → (x ≡ 0 → ⊥) → eqb x 0 ≡ false
 eqb-zero zero h = absurd (h refl)

@@ -1,6 +1,6 @@
 -- The bits as a field. Assumes nothing.
-use Rattle.std.specs.Prelude.{ℕ, zero, suc, ◌+◌, ◌*◌, ◌/◌, ◌%◌, ◌^◌, ◌<◌, ◌≤◌, min, ◌≡◌, refl, ◌≢◌}
-use Rattle.std.proofs.Common.{sym, ap, ap₂, ◌∙◌, arith}
+use Rattle.std.specs.Prelude.{ℕ, ◌+◌, ◌%◌, ◌<◌, min, ◌≡◌, refl}
+use Rattle.std.proofs.Common.{arith}
 use Rattle.std.specs.Int.Bits.{bit_xor, xor_add_and, xor_assoc, xor_self, xor_zero_r}
 use Rattle.std.proofs.lemmas.Nat.{xor_comm, xor_lt}
 use Rattle.galois.specs.Arith.{Arith}

@@ -1,11 +1,11 @@
 -- The systematic form, singular and blinded blocks. Assumes nothing.
-use Rattle.std.proofs.Common.{◌≡◌, ℕ, zero, suc, ◌+◌, ◌-◌, ◌*◌, ◌^◌, ◌<◌, ◌≤◌, Bool, true, false, cond, eqb, ltb, ◌≢◌, ◌⊎◌, sym, refl, ap, ◌∙◌, subst, ap₂, inl, inr, add-zero, arith, pow_pos}
-use lib.Bits.{bit_xor, xor_assoc, xor_comm, xor_self, xor_zero_l, xor_zero_r, xor_lt}
-use Rattle.std.proofs.lemmas.Bool.{cases_eq, cases_lt, cond-true, cond-false, lt-ltb, le-ltb}
+use Rattle.std.proofs.Common.{◌≡◌, ℕ, zero, suc, ◌+◌, ◌-◌, ◌^◌, ◌<◌, cond, ltb, sym, ap, ◌∙◌, subst, ap₂, inl, inr, add-zero, arith, pow_pos}
+use lib.Bits.{bit_xor, xor_assoc, xor_self, xor_zero_l, xor_zero_r, xor_lt}
+use Rattle.std.proofs.lemmas.Bool.{cases_lt, cond-true, cond-false, lt-ltb, le-ltb}
 use Rattle.galois.specs.Arith.{Arith}
-use Rattle.matrix.specs.Matrix.{Mat, sum, delta, times, Same, Els, Dependent, apply, apply_row}
+use Rattle.matrix.specs.Matrix.{Mat, sum, delta, times, Els, Dependent, apply, apply_row}
 use Rattle.matrix.specs.Words.{Passes, Word, from_column, unit_and, Systematic, TheOnly, LeftInverse, Singular, SameBlinded, Inverses, Algebra}
-use Rattle.matrix.proofs.Sums.{sum-cong, sum-zero, sum-only, row-assoc, mul-zero, zero-mul, times-assoc, times-left, times-right, delta-times, times-delta, delta-on, delta-off, sum-mul, mul-sum, sum-swap}
+use Rattle.matrix.proofs.Sums.{sum-cong, sum-zero, row-assoc, mul-zero, times-assoc, times-left, times-right, delta-times, times-delta, sum-mul, mul-sum, sum-swap}
 use Rattle.matrix.proofs.Rows.{delta-lt}
 use Rattle.matrix.proofs.Inverse.{decided, inverses-agree, left-is-right, no-dependence}
 

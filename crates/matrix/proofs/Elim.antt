@@ -1,12 +1,12 @@
 -- Elimination on matrices: what each step keeps, and what stands at the end. Assumes nothing.
-use Rattle.std.proofs.Common.{◌≡◌, ℕ, zero, suc, ◌+◌, ◌*◌, ◌^◌, ◌<◌, ◌≤◌, ◌≢◌, ◌⊎◌, sym, refl, ap, ◌∙◌, subst, ap₂, inl, inr, arith}
+use Rattle.std.proofs.Common.{◌≡◌, ℕ, zero, suc, ◌+◌, ◌^◌, ◌<◌, ◌≤◌, ◌≢◌, ◌⊎◌, sym, refl, ap, ◌∙◌, ap₂, inl, inr, arith}
 use lib.Bits.{bit_xor, xor_self, xor_zero_r}
 use Rattle.std.proofs.lemmas.Bool.{cases_eq}
 use Rattle.galois.specs.Arith.{Arith}
-use Rattle.matrix.specs.Matrix.{Mat, sum, delta, times, Same, Els, add_row, scale_row, swap_rows, Dependent}
-use Rattle.matrix.specs.Steps.{Tied, State, Clearing}
-use Rattle.matrix.proofs.Sums.{sum-zero, sum-some, row-assoc, mul-zero, zero-mul, mul-one, times-assoc, delta-on, delta-off, times-left, times-right, delta-times, times-delta, sum-cong}
-use Rattle.matrix.proofs.Rows.{RowOp, keeps, tied-same, delta-lt, add-row-on, add-row-off, scale-row-on, scale-row-off, swap-rows-first, swap-rows-second, swap-rows-off, add-row-op, scale-row-op, swap-rows-op, add-row-els, scale-row-els, swap-rows-els}
+use Rattle.matrix.specs.Matrix.{Mat, delta, times, Same, Els, add_row, scale_row, swap_rows, Dependent}
+use Rattle.matrix.specs.Steps.{State, Clearing}
+use Rattle.matrix.proofs.Sums.{sum-some, mul-zero, zero-mul, mul-one, delta-on, delta-off, delta-times}
+use Rattle.matrix.proofs.Rows.{keeps, tied-same, delta-lt, add-row-on, add-row-off, scale-row-on, scale-row-off, swap-rows-first, swap-rows-second, swap-rows-off, add-row-op, scale-row-op, swap-rows-op, add-row-els, scale-row-els, swap-rows-els}
 
 module _ (F : Arith) (n : ℕ) (M : Mat) where
   pub start : (X Y : Mat) → Els F M → Same n M X → Same n delta Y → State F n M X Y 0 0

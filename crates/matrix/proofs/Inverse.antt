@@ -1,9 +1,9 @@
 -- A square matrix has a left inverse or a vanishing combination of its rows; a left inverse is a right inverse, and the only one. Assumes nothing.
-use Rattle.std.proofs.Common.{◌≡◌, ℕ, zero, suc, ◌+◌, ◌-◌, ◌*◌, ◌^◌, ◌<◌, ◌≤◌, ◌≢◌, ◌⊎◌, sym, refl, ap, ◌∙◌, subst, ap₂, inl, inr, arith}
+use Rattle.std.proofs.Common.{◌≡◌, ℕ, zero, suc, ◌+◌, ◌-◌, ◌^◌, ◌<◌, ◌⊎◌, sym, refl, ap, ◌∙◌, subst, inl, inr, arith}
 use Rattle.std.proofs.lemmas.Bool.{cases_eq, cases_lt}
 use Rattle.galois.specs.Arith.{Arith}
-use Rattle.matrix.specs.Matrix.{Mat, sum, delta, times, Same, Els, Dependent}
-use Rattle.matrix.proofs.Sums.{sum-cong, delta-on, delta-off, sum-zero, row-assoc, zero-mul, mul-zero, times-assoc, times-left, times-right, delta-times, times-delta}
+use Rattle.matrix.specs.Matrix.{Mat, delta, times, Same, Els, Dependent}
+use Rattle.matrix.proofs.Sums.{sum-cong, delta-on, delta-off, sum-zero, zero-mul, times-assoc, times-left, times-right, delta-times, times-delta}
 use Rattle.matrix.proofs.Rows.{delta-lt}
 use Rattle.matrix.specs.Steps.{State}
 use Rattle.matrix.proofs.Elim.{start, column, inverse-at-end, dependent-at-end}

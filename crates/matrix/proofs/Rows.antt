@@ -1,11 +1,11 @@
 -- Row operations, and what they keep. Assumes nothing.
-use Rattle.std.proofs.Common.{◌≡◌, ℕ, zero, suc, ◌+◌, ◌*◌, ◌^◌, ◌<◌, ◌≤◌, Bool, true, false, cond, eqb, ◌≢◌, ◌⊎◌, sym, refl, ap, ◌∙◌, subst, ap₂, inl, inr, arith}
-use lib.Bits.{bit_xor, xor_assoc, xor_comm, xor_self, xor_zero_l, xor_zero_r, xor_lt}
-use Rattle.std.proofs.lemmas.Bool.{cases_eq, cond-true, cond-false, cond_both, eq-eqb, ne_eqb}
+use Rattle.std.proofs.Common.{◌≡◌, ℕ, ◌^◌, ◌<◌, eqb, ◌≢◌, sym, refl, ap, ◌∙◌, ap₂, inl, inr, arith}
+use lib.Bits.{bit_xor, xor_assoc, xor_self, xor_zero_r, xor_lt}
+use Rattle.std.proofs.lemmas.Bool.{cases_eq, cond-true, cond-false, eq-eqb, ne_eqb}
 use Rattle.galois.specs.Arith.{Arith}
-use Rattle.matrix.specs.Matrix.{Mat, sum, delta, times, Same, Els, add_row, scale_row, swap_rows}
+use Rattle.matrix.specs.Matrix.{Mat, delta, times, Same, Els, add_row, scale_row, swap_rows}
 use Rattle.matrix.specs.Steps.{Tied}
-use Rattle.matrix.proofs.Sums.{xor-four, sum-cong, sum-xor, mul-zero, zero-mul, xor-mul, mul-one, sum-mul, mul-sum, times-assoc, delta-on, delta-off, times-left, times-right, delta-times, times-delta}
+use Rattle.matrix.proofs.Sums.{sum-cong, sum-xor, xor-mul, sum-mul, times-assoc, delta-on, delta-off, times-left, delta-times}
 
 module _ (F : Arith) (i r s : ℕ) (M : Mat) (a j : ℕ) where
   pub add-row-on : a ≡ i → add_row F i r s M a j ≡ bit_xor (M a j) (F.mul s (M r j))

@@ -1,5 +1,5 @@
 -- Matrices over a field of characteristic 2 whose elements are numbers below 2 ^ width. Assumes nothing.
-use Rattle.std.specs.Prelude.{◌≡◌, ℕ, zero, suc, ◌+◌, ◌*◌, ◌^◌, ◌<◌, ◌≤◌, Bool, true, false, cond, ◌≢◌, ◌==◌, bit_xor}
+use Rattle.std.specs.Prelude.{◌≡◌, ℕ, zero, suc, ◌^◌, ◌<◌, cond, ◌≢◌, ◌==◌, bit_xor}
 use Rattle.galois.specs.Arith.{Arith}
 
 -- a matrix of numbers, by row and column

@@ -1,5 +1,5 @@
 -- Two actions one after the other are the action of the product; the 1 by 1 zero matrix. Assumes nothing.
-use Rattle.std.proofs.Common.{◌≡◌, ℕ, Bool, true, false, cond, eqb, List, [], ◌∷◌, length, set, is_ok, Ok, Err, Result, sym, refl, ap, ◌∙◌, subst, arith}
+use Rattle.std.proofs.Common.{◌≡◌, ℕ, cond, List, [], ◌∷◌, length, set, is_ok, Ok, Result, sym, refl, ap, ◌∙◌, subst, arith}
 use Rattle.std.proofs.lemmas.Bool.Decides.{nat_tests}
 use Rattle.galois.specs.Bit.{bits}
 use Rattle.matrix.specs.Matrix.{Mat, times, apply, apply_row}
@@ -7,7 +7,6 @@ use Rattle.matrix.proofs.Sums.{sum-zero, mul-zero, zero-mul}
 use Rattle.bits.specs.Bits.{bytes_for, bits_of, byte_at, pack}
 use Rattle.bits.proofs.Packs.{length-pack, pack-cong, pack-times, pack-times_row}
 use Rattle.operator.specs.declared.fault.OperatorFault.{OperatorFault}
-use Rattle.operator.specs.declared.fault.OperatorFault.TheVariants.{Length}
 use Rattle.operator.specs.Actions.{ColumnAction, RowAction, answer, zeros}
 
 -- the lengths that an action accepts

@@ -1,9 +1,9 @@
 -- The product of a stored matrix and a vector, bit by bit. Assumes nothing.
-use Rattle.std.proofs.Common.{◌≡◌, ℕ, ◌*◌, ◌<◌, List, sym, refl, ap, ◌∙◌, mod-eq_of_lt}
+use Rattle.std.proofs.Common.{◌≡◌, ℕ, ◌*◌, ◌<◌, List, ap, ◌∙◌, mod-eq_of_lt}
 use Rattle.galois.specs.Bit.{bits, both}
 use Rattle.matrix.specs.Matrix.{Mat, sum, apply}
 use Rattle.bits.specs.Bits.{bytes_for, bits_of, bits_from, of_rows, pad_bit, pack}
-use Rattle.bits.proofs.Packs.{apply-lt, pad-in, pad-out, pack-cong}
+use Rattle.bits.proofs.Packs.{apply-lt, pad-in, pack-cong}
 
 -- row i with the vector v
 pub dot-entry : (n i l : ℕ) (rows v : List ℕ) → l ≡ bytes_for n

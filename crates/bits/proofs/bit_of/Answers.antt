@@ -1,4 +1,4 @@
-use Rattle.std.proofs.Common.{◌≡◌, ◌/◌, ◌%◌, ◌^◌, ◌<◌, ◌≤◌, sym, ap, ◌∙◌, arith, pow_mono, rules}
+use Rattle.std.proofs.Common.{◌%◌, ◌^◌, ◌<◌, ◌≤◌, sym, ap, arith, pow_mono, rules}
 use native.Mathlib.Nat.{div-eq_of_lt}
 use Rattle.bits.specs.Bits.{bit_of}
 use Rattle.bits.proofs.bit_of.Goals as goal

@@ -1,4 +1,4 @@
-use Rattle.std.proofs.Common.{◌≡◌, ℕ, ◌+◌, ◌/◌, ◌%◌, ◌<◌, get_or, sym, refl, ap, ◌∙◌, subst, ap₂, add-one, arith}
+use Rattle.std.proofs.Common.{◌≡◌, ℕ, ◌+◌, ◌/◌, ◌<◌, get_or, sym, refl, ap, ◌∙◌, subst, ap₂, add-one, arith}
 use lib.Bits.{bit_xor, bit_and}
 use Rattle.galois.specs.Bit.{both}
 use Rattle.matrix.specs.Matrix.{sum}

@@ -1,4 +1,4 @@
-use Rattle.std.proofs.Common.{◌≡◌, ◌+◌, ◌-◌, ◌/◌, ◌%◌, ◌^◌, min, get_or, sym, ap, ◌∙◌, ap₂, arith}
+use Rattle.std.proofs.Common.{◌≡◌, ◌+◌, ◌-◌, ◌/◌, ◌%◌, ◌^◌, min, get_or, sym, ap, ◌∙◌, arith}
 use native.Mathlib.Nat.{zero-mod}
 use lib.Bits.{bit_and, and_mask}
 use Rattle.bits.proofs.Bytes.{past-left, past-right}

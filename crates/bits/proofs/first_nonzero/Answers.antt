@@ -1,4 +1,4 @@
-use Rattle.std.proofs.Common.{◌≡◌, not, eqb, ap, ◌∙◌, arith}
+use Rattle.std.proofs.Common.{not, eqb, ap, ◌∙◌, arith}
 use Rattle.matrix.proofs.Sums.{delta-off}
 use Rattle.matrix.proofs.Searches.{least-cong}
 use Rattle.bits.specs.Bits.{bits_of}

@@ -1,4 +1,4 @@
-use Rattle.std.proofs.Common.{◌≡◌, sym, ◌∙◌, arith, below_more}
+use Rattle.std.proofs.Common.{sym, ◌∙◌, arith, below_more}
 use Rattle.matrix.proofs.Searches.{least-is, least-end}
 use Rattle.bits.proofs.Units.{right, wrong}
 use Rattle.bits.proofs.scan.Goals as goal

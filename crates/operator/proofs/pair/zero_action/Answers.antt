@@ -1,4 +1,4 @@
-use Rattle.std.proofs.Common.{◌≡◌, [], ◌∷◌, length, set, Ok, sym, ap, ◌∙◌}
+use Rattle.std.proofs.Common.{◌≡◌, [], ◌∷◌, length, set, Ok, sym, ◌∙◌}
 use Rattle.bits.specs.Bits.{bits_of}
 use Rattle.operator.proofs.Chains.{answer-lengths, one_byte, zero-columns, zero-rows}
 use Rattle.operator.specs.Actions.{answer}

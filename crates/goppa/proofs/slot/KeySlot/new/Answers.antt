@@ -1,4 +1,4 @@
-use Rattle.std.proofs.Common.{◌+◌, get_or, sym, ap, ◌∙◌, subst, arith, rules}
+use Rattle.std.proofs.Common.{◌+◌, get_or, sym, ap, ◌∙◌, subst, rules}
 use Rattle.params.specs.Sets.{numbers}
 use Rattle.goppa.specs.Loading.{entry_in, key_in}
 use Rattle.goppa.proofs.Lawful.{Passed, lawful, key-is, elements-of, fresh-bytes, fresh-passed}

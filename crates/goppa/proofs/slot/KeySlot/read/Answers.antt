@@ -1,4 +1,4 @@
-use Rattle.std.proofs.Common.{◌≡◌, ◌+◌, ◌≤◌, get_or, sym, ap, ◌∙◌, arith, rules}
+use Rattle.std.proofs.Common.{◌+◌, ◌≤◌, get_or, sym, ap, ◌∙◌, arith, rules}
 use Rattle.matrix.specs.Search.{least}
 use Rattle.params.specs.Sets.{numbers}
 use Rattle.goppa.specs.Loading.{entry_in, large, key_of, outcome, held}
