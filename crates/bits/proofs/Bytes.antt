@@ -1,7 +1,8 @@
 -- Sums of bits, eight at a time. Assumes nothing.
-use Rattle.std.proofs.Common.{◌≡◌, ℕ, zero, suc, ◌+◌, ◌-◌, ◌*◌, ◌/◌, ◌%◌, ◌^◌, ◌<◌, ◌≤◌, min, Bool, true, false, cond, ◌&&◌, eqb, ltb, ◌≢◌, List, length, get_or, set, sym, refl, ap, ◌∙◌, ap₂, inl, inr, add-zero, add-suc, mod-eq_of_lt, suc-mul, one-mul, zero-mul, add-one, arith, length-set, get_or-set_other, get_or-set_same}
-use lib.Bits.{bit_xor, bit_and, and_zero_l, and_zero_r, xor_shr, xor_mod, and_shr, and_step, xor_assoc, xor_zero_r}
-use Rattle.std.proofs.lemmas.List.{get_or_past}
+use Rattle.std.proofs.Common.{◌≡◌, ℕ, zero, suc, ◌+◌, ◌-◌, ◌*◌, ◌/◌, ◌%◌, ◌^◌, ◌<◌, ◌≤◌, min, Bool, true, false, cond, ◌&&◌, eqb, ltb, ◌≢◌, List, [], ◌∷◌, length, get_or, take, drop, fold, set, sym, refl, ap, ◌∙◌, ap₂, inl, inr, add-zero, add-suc, mod-eq_of_lt, suc-mul, one-mul, zero-mul, add-one, arith, length-set, get_or-set_other, get_or-set_same}
+use lib.Bits.{bit_xor, bit_and, and_zero_l, and_zero_r, xor_shr, xor_mod, and_shr, and_step, xor_assoc, xor_zero_l, xor_zero_r}
+use Rattle.std.specs.List.{zip}
+use Rattle.std.proofs.lemmas.List.{get_or_past, get_or-take, get_or-drop, length-take}
 use Rattle.std.proofs.lemmas.Nat.{div-mul-add, mod-mul-add}
 use Rattle.std.proofs.lemmas.Bool.{cases_lt, cases_eq, eqb-true, and_parts, cond-true, cond-false, lt-ltb, le-ltb}
 use Rattle.matrix.specs.Matrix.{sum, apply_row}
@@ -183,13 +184,6 @@ unfolding sum
 row-skipped i f c x y e none h =
     h ∙ sym (xor_zero_r (sum i f)) ∙ ap (bit_xor (sum i f)) (sym (e ∙ ap (λ d. d * x) none ∙ zero-mul x)) ∙ ap (λ l. sum l f) (sym (add-one i))
 
--- products with bytes past an end are 0
-pub past-left : (xs : List ℕ) (i y : ℕ) → length xs ≤ i → bit_and (get_or xs i 0) y ≡ 0
-past-left xs i y h = ap (λ x. bit_and x y) (get_or_past xs i 0 h) ∙ and_zero_l y
-
-pub past-right : (xs : List ℕ) (i y : ℕ) → length xs ≤ i → bit_and y (get_or xs i 0) ≡ 0
-past-right xs i y h = ap (bit_and y) (get_or_past xs i 0 h) ∙ and_zero_r y
-
 -- terms that are 0 from m on
 pub sum-rest : (m n : ℕ) (f : ℕ → ℕ) → m ≤ n → ((k : ℕ) → m ≤ k → k < n → f k ≡ 0) → sum n f ≡ sum m f
 sum-rest m n f h z =
@@ -206,12 +200,32 @@ pub dot-from : (n at : ℕ) (rows v : List ℕ) →
 unfolding bits_from bits_of
 dot-from n at rows v = dot-bits n (λ j. get_or rows (at + j) 0) (λ j. get_or v j 0)
 
--- as many bytes as there are
-pub dot-present : (q m at : ℕ) (rows v : List ℕ) → m ≡ min (min q (length v - 0)) (length rows - at)
-    → sum q (λ j. bit_and (get_or rows (at + j) 0) (get_or v j 0)) ≡ sum m (λ j. bit_and (get_or rows (at + j) 0) (get_or v j 0))
-dot-present q m at rows v e =
-    sum-rest m q (λ j. bit_and (get_or rows (at + j) 0) (get_or v j 0)) (omega arith) (λ k h l.
-    elim (cases_lt k (length v)) [
-      | inl s ↦ past-left rows (at + k) (get_or v k 0) (omega arith)
-      | inr s ↦ past-right v k (get_or rows (at + k) 0) s
-    ])
+-- byte j of the first n from byte `at` on
+pub part-byte : (rows : List ℕ) (at n j : ℕ) → j < n → get_or (take n (drop at rows)) j 0 ≡ get_or rows (at + j) 0
+part-byte rows at n j h = get_or-take n (drop at rows) j 0 h ∙ get_or-drop at rows j 0
+
+sum-front : (n : ℕ) (f : ℕ → ℕ) → sum (suc n) f ≡ bit_xor (f 0) (sum n (λ k. f (suc k)))
+unfolding sum
+sum-front zero f = xor_zero_l (f 0) ∙ sym (xor_zero_r (f 0))
+sum-front (suc n) f = ap (λ x. bit_xor x (f (suc n))) (sum-front n f) ∙ xor_assoc (f 0) (sum n (λ k. f (suc k))) (f (suc n))
+
+-- the products of two lists, one beside the other
+products-zipped : (xs ys : List ℕ) (s m : ℕ) → length xs ≤ m
+    → fold (λ sum p. bit_xor sum (bit_and p.0 p.1)) s (zip xs ys) ≡ bit_xor s (sum m (λ j. bit_and (get_or xs j 0) (get_or ys j 0)))
+products-zipped [] ys s m h =
+    sym (ap (bit_xor s) (sum-zero m _ (λ j l. ap (λ x. bit_and x (get_or ys j 0)) (get_or_past [] j 0 (omega arith)) ∙ and_zero_l (get_or ys j 0))) ∙ xor_zero_r s)
+products-zipped (x ∷ xs) [] s m h =
+    sym (ap (bit_xor s) (sum-zero m _ (λ j l. ap (bit_and (get_or (x ∷ xs) j 0)) (get_or_past [] j 0 (omega arith)) ∙ and_zero_r (get_or (x ∷ xs) j 0))) ∙ xor_zero_r s)
+products-zipped (x ∷ xs) (y ∷ ys) s zero h = absurd (omega arith)
+products-zipped (x ∷ xs) (y ∷ ys) s (suc m) h =
+    products-zipped xs ys (bit_xor s (bit_and x y)) m (omega arith)
+    ∙ xor_assoc s (bit_and x y) (sum m (λ j. bit_and (get_or xs j 0) (get_or ys j 0)))
+    ∙ ap (bit_xor s) (sym (sum-front m (λ j. bit_and (get_or (x ∷ xs) j 0) (get_or (y ∷ ys) j 0))))
+
+-- the products of the first q bytes, of as many as there are
+pub dot-whole : (q at : ℕ) (rows v : List ℕ)
+    → fold (λ sum p. bit_xor sum (bit_and p.0 p.1)) 0 (zip (take q (drop at rows)) v) ≡ sum q (λ j. bit_and (get_or rows (at + j) 0) (get_or v j 0))
+dot-whole q at rows v =
+    products-zipped (take q (drop at rows)) v 0 q (omega (arith, length-take q (drop at rows)))
+    ∙ xor_zero_l _
+    ∙ sum-cong q _ _ (λ j l. ap (λ x. bit_and x (get_or v j 0)) (part-byte rows at q j l))

@@ -1,5 +1,5 @@
 -- A vector comes back from its bytes. Assumes nothing.
-use Rattle.std.proofs.Common.{◌≡◌, ℕ, zero, suc, ◌+◌, ◌*◌, ◌/◌, ◌%◌, ◌^◌, ◌<◌, ◌≤◌, true, false, cond, ltb, List, map, length, get_or, sym, refl, ap, ◌∙◌, ap₂, inl, inr, pow-suc, div-one, add-one, one-add, arith, pow_pos, shr-shr}
+use Rattle.std.proofs.Common.{◌≡◌, ℕ, zero, suc, ◌+◌, ◌-◌, ◌*◌, ◌/◌, ◌%◌, ◌^◌, ◌<◌, ◌≤◌, true, false, cond, ltb, List, map, length, get_or, sym, refl, ap, ◌∙◌, ap₂, inl, inr, pow-suc, div-one, add-one, one-add, arith, pow_pos, pow_mono, shr-shr}
 use native.Mathlib.Nat.{div-add-mod, mod-one, zero-div}
 use lib.Pow.{mod-pow-add}
 use lib.Bits.{xor_lt}
@@ -67,6 +67,19 @@ pub low-lt : (m : ℕ) (g : ℕ → ℕ) → ((i : ℕ) → g i < 2) → low m g
 low-lt zero g h = omega arith
 low-lt (suc m) g h = let a = h 0 in let b = low-lt m (λ i. g (suc i)) (λ i. h (suc i)) in omega (arith, pow-suc 2 m)
 
+pub low-below : (m w : ℕ) (g : ℕ → ℕ) → ((i : ℕ) → g i < 2) → m ≤ w → low m g < 2 ^ w
+low-below m w g h le = let a = low-lt m g h in let b : 2 ^ m ≤ 2 ^ w = pow_mono le in omega arith
+
+-- one digit more, before the m - k that there are
+pub low-more : (m k at : ℕ) (f : ℕ → ℕ) (x d : ℕ) → 0 < k → k ≤ m → x ≡ low (m - k) (λ i. f (at + k + i)) → d ≡ f (at + (k - 1))
+    → 2 * x + d ≡ low (m - (k - 1)) (λ i. f (at + (k - 1) + i))
+low-more m k at f x d pos le h digit =
+    let e : suc (m - k) ≡ m - (k - 1) = omega arith in
+    let first : f (at + (k - 1)) ≡ f (at + (k - 1) + 0) = ap f (omega arith) in
+    let more : low (m - k) (λ i. f (at + k + i)) ≡ low (m - k) (λ i. f (at + (k - 1) + suc i)) = low-cong (m - k) _ _ (λ i l. ap f (omega arith)) in
+    let step : 2 * x + d ≡ f (at + (k - 1) + 0) + 2 * low (m - k) (λ i. f (at + (k - 1) + suc i)) = omega arith in
+    step ∙ ap (λ r. low r (λ i. f (at + (k - 1) + i))) e
+
 -- bit j of the number with the digits g
 pub low_bit : (m j : ℕ) (g : ℕ → ℕ) → ((i : ℕ) → g i < 2) → j < m → bit_of (low m g) j ≡ g j
 unfolding bit_of
@@ -103,7 +116,7 @@ low-mod (suc m) (suc r) x h =
     let first : cond (ltb 0 (suc r)) (x / 2 ^ 0 % 2) 0 ≡ x % 2 = cond-true (ltb 0 (suc r)) _ _ (lt-ltb 0 (suc r) (omega arith)) ∙ ap (λ y. y % 2) (div-one x) in
     omega arith
 
-pad-lt : (n : ℕ) (f : ℕ → ℕ) (i : ℕ) → pad_bit n f i < 2
+pub pad-lt : (n : ℕ) (f : ℕ → ℕ) (i : ℕ) → pad_bit n f i < 2
 pad-lt n f i = elim (ltb i n) as (λ b. cond b (f i % 2) 0 < 2) [ true ↦ omega arith | false ↦ omega arith ]
 
 pub pad-in : (n : ℕ) (f : ℕ → ℕ) (i : ℕ) → i < n → pad_bit n f i ≡ f i % 2

@@ -1,5 +1,5 @@
 -- Bit vectors as functions of the index, and how a vector fills bytes. Assumes nothing.
-use Rattle.std.specs.Prelude.{ℕ, zero, suc, ◌+◌, ◌*◌, ◌/◌, ◌%◌, ◌^◌, cond, List, map, nat_lt, slice_index}
+use Rattle.std.specs.Prelude.{ℕ, zero, suc, ◌+◌, ◌*◌, ◌/◌, ◌%◌, ◌^◌, cond, List, map, nat_lt, ◌==◌, slice_index}
 use Rattle.std.specs.List.{range_with_len}
 use Rattle.matrix.specs.Matrix.{Mat}
 
@@ -39,3 +39,7 @@ byte_at n f j = low 8 (λ b. pad_bit n f (8 * j + b))
 -- the bytes of the vector f of n bits
 unfoldable pub pack : ℕ → (ℕ → ℕ) → List ℕ
 pack n f = map (byte_at n f) (range_with_len 0 (bytes_for n))
+
+-- byte j of the unit row i
+abbrev pub unit_byte : ℕ → ℕ → ℕ
+unit_byte i j = cond (i / 8 == j) (2 ^ (i % 8)) 0

@@ -3,11 +3,12 @@
 // as 0), and writes pad bits as 0. What matrices the bytes mean is told by the crates above.
 #![tactic(auto)]
 
-ghost use Rattle.std.specs.Prelude.{◌≡◌, ℕ, ◌+◌, ◌-◌, ◌*◌, ◌/◌, ◌%◌, ◌^◌, ◌<◌, ◌≤◌, min, false, not, length, if◌then◌else◌, ◌==◌, bit_and, bit_xor, nat_eq, slice_index};
+ghost use Rattle.std.specs.Prelude.{◌≡◌, ℕ, ◌+◌, ◌-◌, ◌*◌, ◌/◌, ◌%◌, ◌^◌, ◌<◌, ◌≤◌, min, not, length, if◌then◌else◌, ◌==◌, take, drop, fold, bit_and, bit_xor, nat_eq, slice_index};
+ghost use Rattle.std.specs.List.{zip};
 ghost use Rattle.galois.specs.Bit.{both};
 ghost use Rattle.matrix.specs.Matrix.{sum, delta};
-ghost use Rattle.matrix.specs.Search.{least};
-ghost use Rattle.bits.specs.Bits.{bit_of, bits_of, bits_from, bytes_for, pack};
+ghost use Rattle.matrix.specs.Search.{found};
+ghost use Rattle.bits.specs.Bits.{bit_of, bits_of, bits_from, bytes_for, pack, unit_byte};
 
 pub mod source;
 
@@ -15,10 +16,11 @@ pub mod source;
 pub fn bytes_for(n: usize) -> usize
     ensures { result ≡ bytes_for n }
 {
-    n / 8 + (n % 8 + 7) / 8
+    n.div_ceil(8)
 }
 
 // Bit k of a byte, lowest first.
+#[tactic(auto, unfolding(crate::specs::Bits::bit_of))]
 pub fn bit_of(b: u8, k: usize) -> u8
     ensures value { result ≡ bit_of b k }
     ensures small { result < 2 }
@@ -26,16 +28,20 @@ pub fn bit_of(b: u8, k: usize) -> u8
     if k < 8 { (b >> k) % 2 } else { 0 }
 }
 
+// Byte j of a vector.
+fn byte_of(v: &[u8], j: usize) -> u8
+    ensures { result ≡ slice_index v.now j }
+{
+    v.get(j).copied().unwrap_or(0)
+}
+
 // Bit i of a vector.
+#[tactic(auto, unfolding(crate::specs::Bits::bits_of))]
 pub fn get_bit(v: &[u8], i: usize) -> u8
     ensures value { result ≡ bits_of v.now i }
     ensures small { result < 2 }
 {
-    if i / 8 < v.len() {
-        bit_of(v[i / 8], i % 8)
-    } else {
-        0
-    }
+    bit_of(byte_of(v, i / 8), i % 8)
 }
 
 // The sum of the eight bits of a byte.
@@ -54,7 +60,8 @@ pub fn mask(r: usize) -> u8
     if r < 8 { (1u8 << r) - 1 } else { 255 }
 }
 
-// What a slice of bytes holds is below 256, told to the proofs. No code is left of it.
+// Tells the proof of a function that goes on to write a slice that what it held is below 256.
+// No code is left of it.
 pub fn are_bytes(s: &[u8])
     ensures { (k : ℕ) → k < length s.now → slice_index s.now k < 256 }
 {
@@ -63,12 +70,25 @@ pub fn are_bytes(s: &[u8])
     }
 }
 
-// How many of the first n bytes from `at` on there are.
-fn present(s: &[u8], at: usize, n: usize) -> usize
-    ensures { result ≡ min n (length s.now - at) }
+// The bytes from `at` on, none past the end.
+fn rest(s: &[u8], at: usize) -> &[u8]
+    ensures { result.now ≡ drop at s.now }
 {
-    let left = s.len().saturating_sub(at);
-    if n < left { n } else { left }
+    s.get(at..).unwrap_or(&[])
+}
+
+// The first n bytes, fewer where there are fewer.
+fn first(s: &[u8], n: usize) -> &[u8]
+    ensures { result.now ≡ take n s.now }
+{
+    s.get(..n).unwrap_or(s)
+}
+
+// The sum of the products of two vectors, byte by byte.
+fn products(a: &[u8], b: &[u8]) -> u8
+    ensures { result ≡ fold (λ sum p. bit_xor sum (bit_and p.0 p.1)) 0 (zip a.now b.now) }
+{
+    a.iter().zip(b).fold(0, |sum, (x, y)| sum ^ (x & y))
 }
 
 // The sum of the products of the first n bits of two vectors, the first from byte `at` on.
@@ -76,35 +96,20 @@ pub fn dot(rows: &[u8], at: usize, v: &[u8], n: usize) -> u8
     ensures value { result ≡ sum n (λ k. both (bits_from at rows.now k) (bits_of v.now k)) }
     ensures small { result < 2 }
 {
-    let whole = present(rows, at, present(v, 0, n / 8));
-    let mut sum = 0u8;
-    for j in 0..whole {
-        sum ^= rows[at + j] & v[j];
-    }
-    parity(sum ^ dot_tail(rows, at, v, n))
-}
-
-// The products of the bits past the last whole byte.
-fn dot_tail(rows: &[u8], at: usize, v: &[u8], n: usize) -> u8
-    ensures { result ≡ bit_and (slice_index rows.now (at + n / 8)) (slice_index v.now (n / 8)) % 2 ^ (n % 8) }
-{
-    let q = n / 8;
-    if q >= v.len() {
-        return 0;
-    }
-    if present(rows, at, q + 1) <= q {
-        return 0;
-    }
-    rows[at + q] & v[q] & mask(n % 8)
+    let row = rest(rows, at);
+    let whole = n / 8;
+    let tail = byte_of(row, whole) & byte_of(v, whole) & mask(n % 8);
+    parity(products(first(row, whole), v) ^ tail)
 }
 
 // Adds the bytes from `at` on.
 pub fn xor_row(rows: &[u8], at: usize, out: &mut [u8])
     ensures { (j : ℕ) → j < length out.new → slice_index out.new j ≡ bit_xor (slice_index out.old j) (slice_index rows.now (at + j)) }
 {
-    let end = present(rows, at, out.len());
-    for j in 0..end {
-        out[j] ^= rows[at + j];
+    let row = first(rest(rows, at), out.len());
+    // By index: of what an adapter of `iter_mut` wrote a proof knows nothing.
+    for (j, x) in row.iter().enumerate() {
+        out[j] ^= *x;
     }
 }
 
@@ -118,60 +123,54 @@ pub fn clear_pads(out: &mut [u8], n: usize)
     are_bytes(out);
     let r = n % 8;
     if r != 0 {
-        let q = n / 8;
-        out[q] &= mask(r);
+        out[n / 8] &= mask(r);
     }
 }
 
-fn byte_of(v: &[u8], j: usize) -> u8
-    ensures { result ≡ slice_index v.now j }
-{
-    if j < v.len() { v[j] } else { 0 }
-}
-
 // Bit j of unit row i.
+#[tactic(auto, unfolding(matrix::specs::Matrix::delta))]
 fn unit_bit(i: usize, j: usize) -> u8
     ensures { result ≡ delta i j }
 {
-    if i == j { 1 } else { 0 }
+    u8::from(i == j)
 }
 
 // Byte j of unit row i.
 fn unit_byte(i: usize, j: usize) -> u8
-    ensures { (b : ℕ) → b < 8 → bit_of result b ≡ delta i (8 * j + b) }
+    ensures { result ≡ unit_byte i j }
 {
     if i / 8 == j { 1 << (i % 8) } else { 0 }
 }
 
 // The first wrong column, where those before `from` are right.
-fn scan(v: &[u8], n: usize, i: usize, from: usize) -> usize
-    requires right { (k : ℕ) → k < from → not (bits_of v.now k == delta i k) ≡ false }
+fn scan(v: &[u8], n: usize, i: usize, from: usize) -> Option<usize>
+    requires right { (k : ℕ) → k < from → bits_of v.now k ≡ delta i k }
     requires within { from ≤ n }
-    ensures { result ≡ least n (λ j. not (bits_of v.now j == delta i j)) }
+    ensures { result ≡ found n (λ j. not (bits_of v.now j == delta i j)) }
 {
-    for j in from..n {
-        if get_bit(v, j) != unit_bit(i, j) {
-            return j;
-        }
-    }
-    n
+    (from..n).find(|j| get_bit(v, *j) != unit_bit(i, *j))
 }
 
-// The first of n columns in which v is not unit row i, or n; unit row n is zero.
-pub fn first_wrong(v: &[u8], n: usize, i: usize) -> usize
-    ensures { result ≡ least n (λ j. not (bits_of v.now j == delta i j)) }
+// How many of the first n bytes of v are those of unit row i, before one that is not.
+fn right_bytes(v: &[u8], n: usize, i: usize) -> usize
+    ensures within { result ≤ n }
+    ensures right { (k : ℕ) → k < 8 * result → bits_of v.now k ≡ delta i k }
 {
-    for j in 0..n / 8 {
-        if byte_of(v, j) != unit_byte(i, j) {
-            return scan(v, n, i, 8 * j);
-        }
-    }
-    scan(v, n, i, 8 * (n / 8))
+    (0..n)
+        .find(|j| byte_of(v, *j) != unit_byte(i, *j))
+        .unwrap_or(n)
 }
 
-// The first of n columns in which v is not 0, or n.
-pub fn first_nonzero(v: &[u8], n: usize) -> usize
-    ensures { result ≡ least n (λ j. not (bits_of v.now j == 0)) }
+// The first of n columns in which v is not unit row i; unit row n is zero.
+pub fn first_wrong(v: &[u8], n: usize, i: usize) -> Option<usize>
+    ensures { result ≡ found n (λ j. not (bits_of v.now j == delta i j)) }
+{
+    scan(v, n, i, 8 * right_bytes(v, n / 8, i))
+}
+
+// The first of n columns in which v is not 0.
+pub fn first_nonzero(v: &[u8], n: usize) -> Option<usize>
+    ensures { result ≡ found n (λ j. not (bits_of v.now j == 0)) }
 {
     first_wrong(v, n, n)
 }

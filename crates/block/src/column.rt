@@ -12,7 +12,8 @@ ghost use Rattle.block.specs.Slots.{rows_of, sizes_of, column_word};
 
 use bits::source::{BitSource, write_bits};
 use bits::{bytes_for, get_bit};
-use field::{Field, Gf4, Gf5, Gf12, Gf13};
+use field::Field;
+use goppa::over_field;
 use goppa::slot::KeySlot;
 use key::fault::ColumnFault;
 use operator::check_lengths;
@@ -21,11 +22,11 @@ use params::set::ParameterSet;
 
 // Adds y, x y, x^2 y, .. to the words.
 fn add_powers<F: Field>(x: u16, y: u16, words: &mut [u16])
-    ensures { (i : ℕ) → i < length words.old → slice_index words.new i ≡ bit_xor (slice_index words.old i) (scaled F.width F.reducer x y i) }
+    ensures { (i : ℕ) → i < length words.old → slice_index words.new i ≡ bit_xor (slice_index words.old i) (scaled F.WIDTH F.REDUCER x y i) }
 {
     let mut power = y;
-    for i in 0..words.len() {
-        words[i] ^= power;
+    for word in words.iter_mut() {
+        *word ^= power;
         power = F::mul(x, power);
     }
 }
@@ -34,12 +35,7 @@ fn add_powers<F: Field>(x: u16, y: u16, words: &mut [u16])
 fn add_powers_in(set: ParameterSet, x: u16, y: u16, words: &mut [u16])
     ensures { (i : ℕ) → i < length words.old → slice_index words.new i ≡ bit_xor (slice_index words.old i) (scaled set.m set.f x y i) }
 {
-    match set.m {
-        4 => add_powers::<Gf4>(x, y, words),
-        5 => add_powers::<Gf5>(x, y, words),
-        12 => add_powers::<Gf12>(x, y, words),
-        _ => add_powers::<Gf13>(x, y, words),
-    }
+    over_field!(set, add_powers(x, y, words))
 }
 
 // Adds the words of column j.
@@ -81,7 +77,8 @@ fn write_words(set: ParameterSet, words: &[u16], out: &mut [u8])
     write_bits(&Stacked { m, words }, set.rows(), out)
 }
 
-// Writes the sum of the columns that v chooses; words is memory for it, and then clear.
+// Writes the sum of the columns that v chooses; words is memory for it, and then clear. (Here and below
+// each function asks for the lengths: a struct cannot vouch for memory that it lends on.)
 fn write_sum(slot: &KeySlot, v: &[u8], words: &mut [u16], out: &mut [u8])
     requires words { length words.old ≡ slot.now.set.t }
     requires room { length out.old ≡ bytes_for (rows_of slot.now) }
@@ -89,6 +86,7 @@ fn write_sum(slot: &KeySlot, v: &[u8], words: &mut [u16], out: &mut [u8])
     ensures clear { AllZero words.new }
 {
     words.fill(0);
+    // by number: a vector's bits are no slice
     for j in 0..slot.set.rows() {
         if get_bit(v, j) == 1 {
             add_column(slot, j, words);

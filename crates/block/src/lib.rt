@@ -42,7 +42,7 @@ impl Operator for CheckBlock<'_> {
     }
 }
 
-// The key of a slot, as sessions know it.
+// The key of a slot, as sessions know it: a type of its own, since Key and Operator both have a row_action.
 #[derive(Clone, Copy)]
 pub struct SlotKey<'a> {
     pub slot: &'a KeySlot,

@@ -3,6 +3,8 @@
 // The key is that of a new slot (practice12), the blinding a stored matrix.
 #![tactic(auto)]
 
+ghost use Rattle.std.specs.Prelude.{◌≤◌, length, IfOk};
+
 use block::SlotKey;
 use goppa::slot::KeySlot;
 use operator::stored::StoredMatrix;
@@ -10,8 +12,8 @@ use session::frame::length_for;
 use session::state::{Open, Ready};
 use sink::Sink;
 use sink::key::PackedKey;
-use std::io;
 use std::io::{BufReader, Read, Write};
+use std::{io, slice};
 
 // practice12 has 8 rows, so a vector is one byte, and 4 public columns.
 const ROWS: usize = 8;
@@ -23,31 +25,30 @@ const BLINDING: [u8; 8] = [0x03, 0x02, 0x04, 0x08, 0x10, 0x20, 0x40, 0x80];
 // The longest frame: kind, index and one byte of row.
 const LONGEST: usize = 4;
 
-// One byte more of the input, or none at its end.
-fn next<R: Read>(input: &mut R) -> io::Result<Option<u8>> {
-    let mut one = [0u8; 1];
-    let n = input.read(&mut one)?;
-    if n == 0 { Ok(None) } else { Ok(Some(one[0])) }
+// Fills a part of a frame and tells how many bytes came: fewer where the input ended.
+fn fill<R: Read>(input: &mut R, part: &mut [u8]) -> io::Result<usize>
+    ensures { IfOk result (λ came. came ≤ length part.old) }
+{
+    for (at, place) in part.iter_mut().enumerate() {
+        if input.read(slice::from_mut(place))? == 0 {
+            return Ok(at);
+        }
+    }
+    Ok(part.len())
 }
 
-// Reads one frame and tells its length: less than the kind asks for where the input ended in it,
-// 0 where there was no more.
-fn fetch<R: Read>(input: &mut R, frame: &mut [u8; LONGEST]) -> io::Result<usize> {
-    let Some(kind) = next(input)? else {
-        return Ok(0);
-    };
-    frame[0] = kind;
-    let whole = length_for(kind, ROWS);
-    for i in 1..LONGEST {
-        if i >= whole {
-            return Ok(i);
-        }
-        let Some(byte) = next(input)? else {
-            return Ok(i);
-        };
-        frame[i] = byte;
+// Reads one frame: less than the kind asks for where the input ended in it, none where there was no
+// more.
+fn fetch<'a, R: Read>(
+    input: &mut R,
+    memory: &'a mut [u8; LONGEST],
+) -> io::Result<Option<&'a [u8]>> {
+    if fill(input, &mut memory[..1])? == 0 {
+        return Ok(None);
     }
-    Ok(LONGEST)
+    let whole = length_for(memory[0], ROWS).clamp(1, LONGEST);
+    let came = fill(input, &mut memory[1..whole])?;
+    Ok(Some(&memory[..1 + came]))
 }
 
 // Answers frames until the input ends.
@@ -61,24 +62,14 @@ fn serve<R: Read, W: Write>(
     let blinding = StoredMatrix::new(ROWS, &BLINDING);
     // nothing says that an input ends, so the loop counts
     for _ in 0..u64::MAX {
-        let mut frame = [0u8; LONGEST];
-        let length = fetch(input, &mut frame)?;
-        if length == 0 || length > LONGEST {
+        let mut memory = [0u8; LONGEST];
+        let Some(frame) = fetch(input, &mut memory)? else {
             return Ok(());
-        }
+        };
         let mut working = [0u8; 2];
         let mut reply = [0u8; 4];
-        let answer = session.answer(
-            card,
-            &blinding,
-            inverse,
-            &mut working,
-            &frame[..length],
-            &mut reply,
-        );
-        if answer.length <= reply.len() {
-            output.write_all(&reply[..answer.length])?;
-        }
+        let answer = session.answer(card, &blinding, inverse, &mut working, frame, &mut reply);
+        output.write_all(&reply[..answer.length])?;
         output.flush()?;
     }
     Ok(())

@@ -10,7 +10,9 @@ ghost use Rattle.galois.specs.Bit.{both, bits as bit_field};
 ghost use Rattle.galois.specs.Gf.{times_z, times, inverse, inverse_of};
 ghost use Rattle.galois.proofs.Fields.{gf4, gf5, gf12, gf13};
 ghost use Rattle.field.specs.Bits.{both-times, bit-inverse};
-ghost use Rattle.std.proofs.Common.{rules};
+ghost use Rattle.std.proofs.Common.{refl, lit≤};
+
+use std::marker::PhantomData;
 
 // The m low bits of a.
 fn low_bits(m: u32, a: u16) -> u16
@@ -28,48 +30,55 @@ fn masked(bit: u16, x: u16) -> u16
     x & 0u16.wrapping_sub(bit)
 }
 
-// z times x, modulo f.
-fn times_z(m: u32, f: u16, x: u16) -> u16
-    requires narrow { m ≤ 15 }
-    requires top { f / 2 ^ m ≡ 1 }
-    requires element { x < 2 ^ m }
-    ensures value { result ≡ times_z m f x }
-    ensures element { result < 2 ^ m }
-{
-    let y = x << 1;
-    y ^ masked((y >> m) & 1, f)
+// A polynomial f of degree m, which products are reduced by.
+#[derive(Clone, Copy)]
+struct Reducer {
+    m: u32,
+    f: u16,
+    ghost narrow: { m ≤ 15 },
+    ghost top: { f / 2 ^ m ≡ 1 },
 }
 
-// The product modulo f of the elements in the m low bits of a and of b.
-fn product(m: u32, f: u16, a: u16, b: u16) -> u16
-    requires narrow { m ≤ 15 }
-    requires top { f / 2 ^ m ≡ 1 }
-    ensures { result ≡ times m f a b }
-{
-    let mut sum: u16 = 0;
-    let mut x = low_bits(m, a);
-    let mut y = b;
-    for _ in 0..m {
-        sum ^= masked(y & 1, x);
-        x = times_z(m, f, x);
-        y >>= 1;
+impl Reducer {
+    // z times x.
+    fn times_z(self, x: u16) -> u16
+        requires { x < 2 ^ self.m }
+        ensures value { result ≡ times_z self.m self.f x }
+        ensures element { result < 2 ^ self.m }
+    {
+        let y = x << 1;
+        y ^ masked((y >> self.m) & 1, self.f)
     }
-    sum
-}
 
-// The element in the m low bits of a to the power 2^m - 2.
-fn power(m: u32, f: u16, a: u16) -> u16
-    requires narrow { m ≤ 15 }
-    requires some { 0 < m }
-    requires top { f / 2 ^ m ≡ 1 }
-    ensures { result ≡ inverse m f a }
-{
-    let mut r: u16 = 1;
-    for _ in 1..m {
-        let s = product(m, f, r, r);
-        r = product(m, f, a, s);
+    // The product of the elements in the m low bits of a and of b.
+    fn product(self, a: u16, b: u16) -> u16
+        ensures { result ≡ times self.m self.f a b }
+    {
+        let mut sum: u16 = 0;
+        let mut x = low_bits(self.m, a);
+        let mut y = b;
+        // A count of steps, each from the last one's result: there is no index and no slice.
+        for _ in 0..self.m {
+            sum ^= masked(y & 1, x);
+            x = self.times_z(x);
+            y >>= 1;
+        }
+        sum
     }
-    product(m, f, r, r)
+
+    // The element in the m low bits of a to the power 2^m - 2.
+    fn power(self, a: u16) -> u16
+        requires { 0 < self.m }
+        ensures { result ≡ inverse self.m self.f a }
+    {
+        let mut r: u16 = 1;
+        // A count of steps, as above.
+        for _ in 1..self.m {
+            let s = self.product(r, r);
+            r = self.product(a, s);
+        }
+        self.product(r, r)
+    }
 }
 
 // A field of numbers below 2^WIDTH, the polynomials over the bits modulo REDUCER. A value of the
@@ -77,101 +86,103 @@ fn power(m: u32, f: u16, a: u16) -> u16
 pub trait Field: Copy {
     const WIDTH: u32;
 
+    ghost WIDTH: { ℕ };
+
     const REDUCER: u16;
+
+    ghost REDUCER: { ℕ };
 
     // the operations, with the laws of a field
     ghost arith: { Arith };
 
-    ghost width: { ℕ };
-
-    ghost reducer: { ℕ };
-
     // the number in a cell
     ghost number: { Self → ℕ };
 
-    // The constants, as the proofs know them.
-    fn bits() -> u32
-        ensures { result ≡ width };
-
-    fn modulus() -> u16
-        ensures { result ≡ reducer };
-
     fn low(a: u16) -> u16
-        ensures { result ≡ a % 2 ^ width }
+        ensures { result ≡ a % 2 ^ WIDTH }
     {
-        low_bits(Self::bits(), a)
+        low_bits(Self::WIDTH, a)
     }
 
     fn add(a: u16, b: u16) -> u16
-        ensures { result ≡ bit_xor a b % 2 ^ width }
+        ensures { result ≡ bit_xor a b % 2 ^ WIDTH }
     {
         Self::low(a ^ b)
     }
 
     fn mul(a: u16, b: u16) -> u16
-        ensures { result ≡ times width reducer a b }
+        ensures { result ≡ times WIDTH REDUCER a b }
     {
-        product(Self::bits(), Self::modulus(), a, b)
+        let reducer = Reducer {
+            m: Self::WIDTH,
+            f: Self::REDUCER,
+        };
+        reducer.product(a, b)
     }
 
     // The inverse of 0 is 0.
     fn invert(a: u16) -> u16
-        ensures { result ≡ inverse_of width reducer a }
+        ensures { result ≡ inverse_of WIDTH REDUCER a }
     {
+        let reducer = Reducer {
+            m: Self::WIDTH,
+            f: Self::REDUCER,
+        };
         if Self::low(a) == 0 {
             0
         } else {
-            power(Self::bits(), Self::modulus(), a)
+            reducer.power(a)
         }
     }
 
     // The cell of an element.
     fn of(a: u16) -> Self
-        ensures { number result ≡ a % 2 ^ width };
+        ensures { number result ≡ a % 2 ^ WIDTH };
 
     // The element of a cell.
     fn get(self) -> u16
-        ensures { result ≡ number self % 2 ^ width };
+        ensures { result ≡ number self % 2 ^ WIDTH };
 
     fn is_zero(self) -> bool
-        ensures { result ≡ eqb (number self % 2 ^ width) 0 }
+        ensures { result ≡ eqb (number self % 2 ^ WIDTH) 0 }
     {
         self.get() == 0
     }
 
     fn plus(self, other: Self) -> Self
-        ensures element { number result % 2 ^ width ≡ bit_xor (number self % 2 ^ width) (number other % 2 ^ width) }
-        ensures clean { number result < 2 ^ width }
+        ensures element { number result % 2 ^ WIDTH ≡ bit_xor (number self % 2 ^ WIDTH) (number other % 2 ^ WIDTH) }
+        ensures clean { number result < 2 ^ WIDTH }
     {
         Self::of(Self::add(self.get(), other.get()))
     }
 
     fn times(self, other: Self) -> Self
-        ensures element { number result % 2 ^ width ≡ arith.mul (number self % 2 ^ width) (number other % 2 ^ width) }
-        ensures clean { number result < 2 ^ width }
+        ensures element { number result % 2 ^ WIDTH ≡ arith.mul (number self % 2 ^ WIDTH) (number other % 2 ^ WIDTH) }
+        ensures clean { number result < 2 ^ WIDTH }
     {
         Self::of(Self::mul(self.get(), other.get()))
     }
 
     fn inverse(self) -> Self
-        ensures element { number result % 2 ^ width ≡ arith.inv (number self % 2 ^ width) }
-        ensures clean { number result < 2 ^ width }
+        ensures element { number result % 2 ^ WIDTH ≡ arith.inv (number self % 2 ^ WIDTH) }
+        ensures clean { number result < 2 ^ WIDTH }
     {
         Self::of(Self::invert(self.get()))
     }
 
-    ghost narrow: { width ≤ 15 };
+    ghost narrow: { WIDTH ≤ 15 };
 
-    ghost top: { reducer / 2 ^ width ≡ 1 };
+    ghost top: { REDUCER / 2 ^ WIDTH ≡ 1 };
 
-    ghost wide: { arith.width ≡ width };
+    ghost wide: { arith.width ≡ WIDTH };
 
-    ghost product: { (x y : ℕ) → arith.mul x y ≡ times width reducer x y };
+    ghost product: { (x y : ℕ) → arith.mul x y ≡ times WIDTH REDUCER x y };
 
-    ghost inversion: { (x : ℕ) → arith.inv x ≡ inverse_of width reducer x };
+    ghost inversion: { (x : ℕ) → arith.inv x ≡ inverse_of WIDTH REDUCER x };
 }
 
-// The sum and the product of bits, on bytes alone, so that loops over rows of bits are vectorised.
+// The sum and the product of bits, on bytes alone, so that loops over rows of bits are vectorised:
+// so the bits are a type of their own and not a Gf.
 fn bit_sum(a: u8, b: u8) -> u8
     ensures value { result ≡ bit_xor (a % 2) (b % 2) }
     ensures element { result < 2 }
@@ -195,33 +206,25 @@ pub struct Bit {
 impl Field for Bit {
     const WIDTH: u32 = 1;
 
+    ghost WIDTH = { 1 };
+
     const REDUCER: u16 = 0b11;
+
+    ghost REDUCER = { 0b11 };
 
     ghost arith = { bit_field };
 
-    ghost width = { 1 };
-
-    ghost reducer = { 0b11 };
-
     ghost number = { λ x. x.value };
 
-    ghost narrow = { Prim.search rules };
+    ghost narrow = { lit≤ tt };
 
-    ghost top = { Prim.search rules };
+    ghost top = { refl };
 
-    ghost wide = { Prim.search rules };
+    ghost wide = { refl };
 
     ghost product = { both-times };
 
     ghost inversion = { bit-inverse };
-
-    fn bits() -> u32 {
-        Self::WIDTH
-    }
-
-    fn modulus() -> u16 {
-        Self::REDUCER
-    }
 
     fn of(a: u16) -> Bit {
         Bit {
@@ -246,190 +249,189 @@ impl Field for Bit {
     }
 }
 
-// Modulo z^4 + z + 1.
-#[derive(Clone, Copy)]
-pub struct Gf4 {
-    pub value: u16,
+// A polynomial over the bits with no factors, of degree WIDTH: bit i of REDUCER is its term z^i.
+pub trait Modulus: Copy {
+    const WIDTH: u32;
+
+    ghost WIDTH: { ℕ };
+
+    const REDUCER: u16;
+
+    ghost REDUCER: { ℕ };
+
+    // the field modulo the polynomial
+    ghost arith: { Arith };
+
+    ghost narrow: { WIDTH ≤ 15 };
+
+    ghost top: { REDUCER / 2 ^ WIDTH ≡ 1 };
+
+    ghost wide: { arith.width ≡ WIDTH };
+
+    ghost product: { (x y : ℕ) → arith.mul x y ≡ times WIDTH REDUCER x y };
+
+    ghost inversion: { (x : ℕ) → arith.inv x ≡ inverse_of WIDTH REDUCER x };
 }
 
-impl Field for Gf4 {
+// z^4 + z + 1
+#[derive(Clone, Copy)]
+pub struct Degree4;
+
+impl Modulus for Degree4 {
     const WIDTH: u32 = 4;
+
+    ghost WIDTH = { 4 };
 
     const REDUCER: u16 = 0b1_0011;
 
+    ghost REDUCER = { 0b1_0011 };
+
     ghost arith = { gf4 };
 
-    ghost width = { 4 };
+    ghost narrow = { lit≤ tt };
 
-    ghost reducer = { 0b1_0011 };
+    ghost top = { refl };
 
-    ghost number = { λ x. x.value };
+    ghost wide = { refl };
 
-    ghost narrow = { Prim.search rules };
+    ghost product = { λ x y. refl };
 
-    ghost top = { Prim.search rules };
-
-    ghost wide = { Prim.search rules };
-
-    ghost product = { Prim.search rules };
-
-    ghost inversion = { Prim.search rules };
-
-    fn bits() -> u32 {
-        Self::WIDTH
-    }
-
-    fn modulus() -> u16 {
-        Self::REDUCER
-    }
-
-    fn of(a: u16) -> Gf4 {
-        Gf4 { value: Gf4::low(a) }
-    }
-
-    fn get(self) -> u16 {
-        Gf4::low(self.value)
-    }
+    ghost inversion = { λ x. refl };
 }
 
-// Modulo z^5 + z^2 + 1.
+// z^5 + z^2 + 1
 #[derive(Clone, Copy)]
-pub struct Gf5 {
-    pub value: u16,
-}
+pub struct Degree5;
 
-impl Field for Gf5 {
+impl Modulus for Degree5 {
     const WIDTH: u32 = 5;
+
+    ghost WIDTH = { 5 };
 
     const REDUCER: u16 = 0b10_0101;
 
+    ghost REDUCER = { 0b10_0101 };
+
     ghost arith = { gf5 };
 
-    ghost width = { 5 };
+    ghost narrow = { lit≤ tt };
 
-    ghost reducer = { 0b10_0101 };
+    ghost top = { refl };
 
-    ghost number = { λ x. x.value };
+    ghost wide = { refl };
 
-    ghost narrow = { Prim.search rules };
+    ghost product = { λ x y. refl };
 
-    ghost top = { Prim.search rules };
-
-    ghost wide = { Prim.search rules };
-
-    ghost product = { Prim.search rules };
-
-    ghost inversion = { Prim.search rules };
-
-    fn bits() -> u32 {
-        Self::WIDTH
-    }
-
-    fn modulus() -> u16 {
-        Self::REDUCER
-    }
-
-    fn of(a: u16) -> Gf5 {
-        Gf5 { value: Gf5::low(a) }
-    }
-
-    fn get(self) -> u16 {
-        Gf5::low(self.value)
-    }
+    ghost inversion = { λ x. refl };
 }
 
-// Modulo z^12 + z^3 + 1.
+// z^12 + z^3 + 1
 #[derive(Clone, Copy)]
-pub struct Gf12 {
-    pub value: u16,
-}
+pub struct Degree12;
 
-impl Field for Gf12 {
+impl Modulus for Degree12 {
     const WIDTH: u32 = 12;
+
+    ghost WIDTH = { 12 };
 
     const REDUCER: u16 = 0b1_0000_0000_1001;
 
+    ghost REDUCER = { 0b1_0000_0000_1001 };
+
     ghost arith = { gf12 };
 
-    ghost width = { 12 };
+    ghost narrow = { lit≤ tt };
 
-    ghost reducer = { 0b1_0000_0000_1001 };
+    ghost top = { refl };
 
-    ghost number = { λ x. x.value };
+    ghost wide = { refl };
 
-    ghost narrow = { Prim.search rules };
+    ghost product = { λ x y. refl };
 
-    ghost top = { Prim.search rules };
-
-    ghost wide = { Prim.search rules };
-
-    ghost product = { Prim.search rules };
-
-    ghost inversion = { Prim.search rules };
-
-    fn bits() -> u32 {
-        Self::WIDTH
-    }
-
-    fn modulus() -> u16 {
-        Self::REDUCER
-    }
-
-    fn of(a: u16) -> Gf12 {
-        Gf12 {
-            value: Gf12::low(a),
-        }
-    }
-
-    fn get(self) -> u16 {
-        Gf12::low(self.value)
-    }
+    ghost inversion = { λ x. refl };
 }
 
-// Modulo z^13 + z^4 + z^3 + z + 1.
+// z^13 + z^4 + z^3 + z + 1
 #[derive(Clone, Copy)]
-pub struct Gf13 {
-    pub value: u16,
-}
+pub struct Degree13;
 
-impl Field for Gf13 {
+impl Modulus for Degree13 {
     const WIDTH: u32 = 13;
+
+    ghost WIDTH = { 13 };
 
     const REDUCER: u16 = 0b10_0000_0001_1011;
 
+    ghost REDUCER = { 0b10_0000_0001_1011 };
+
     ghost arith = { gf13 };
 
-    ghost width = { 13 };
+    ghost narrow = { lit≤ tt };
 
-    ghost reducer = { 0b10_0000_0001_1011 };
+    ghost top = { refl };
+
+    ghost wide = { refl };
+
+    ghost product = { λ x y. refl };
+
+    ghost inversion = { λ x. refl };
+}
+
+// A cell of the field modulo P: 16 bits, of which the low ones are the element.
+#[derive(Clone, Copy)]
+pub struct Gf<P> {
+    pub value: u16,
+    modulus: PhantomData<P>,
+}
+
+pub type Gf4 = Gf<Degree4>;
+
+pub type Gf5 = Gf<Degree5>;
+
+pub type Gf12 = Gf<Degree12>;
+
+pub type Gf13 = Gf<Degree13>;
+
+// The cell that holds this very number.
+impl<P> From<u16> for Gf<P> {
+    ghost from_gives = { λ n r. r.value ≡ n };
+
+    fn from(value: u16) -> Gf<P> {
+        Gf {
+            value,
+            modulus: PhantomData,
+        }
+    }
+}
+
+impl<P: Modulus> Field for Gf<P> {
+    const WIDTH: u32 = P::WIDTH;
+
+    ghost WIDTH = { P.WIDTH };
+
+    const REDUCER: u16 = P::REDUCER;
+
+    ghost REDUCER = { P.REDUCER };
+
+    ghost arith = { P.arith };
 
     ghost number = { λ x. x.value };
 
-    ghost narrow = { Prim.search rules };
+    ghost narrow = { P.narrow };
 
-    ghost top = { Prim.search rules };
+    ghost top = { P.top };
 
-    ghost wide = { Prim.search rules };
+    ghost wide = { P.wide };
 
-    ghost product = { Prim.search rules };
+    ghost product = { P.product };
 
-    ghost inversion = { Prim.search rules };
+    ghost inversion = { P.inversion };
 
-    fn bits() -> u32 {
-        Self::WIDTH
-    }
-
-    fn modulus() -> u16 {
-        Self::REDUCER
-    }
-
-    fn of(a: u16) -> Gf13 {
-        Gf13 {
-            value: Gf13::low(a),
-        }
+    fn of(a: u16) -> Gf<P> {
+        Gf::from(Self::low(a))
     }
 
     fn get(self) -> u16 {
-        Gf13::low(self.value)
+        Self::low(self.value)
     }
 }

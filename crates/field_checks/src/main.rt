@@ -5,32 +5,36 @@
 use field::{Bit, Field, Gf4, Gf5, Gf12, Gf13};
 use std::io::{BufRead, BufReader};
 
-fn answer<F: Field>(what: &str, a: u16, b: u16) -> u16 {
-    match what {
-        "times" => F::mul(a, b),
-        _ => F::invert(a),
-    }
+#[derive(Clone, Copy)]
+enum Question {
+    Times(u16, u16),
+    Inverse(u16),
 }
 
-fn answer_at(width: u16, what: &str, a: u16, b: u16) -> u16 {
-    match width {
-        4 => answer::<Gf4>(what, a, b),
-        5 => answer::<Gf5>(what, a, b),
-        12 => answer::<Gf12>(what, a, b),
-        13 => answer::<Gf13>(what, a, b),
-        _ => answer::<Bit>(what, a, b),
+impl Question {
+    // The answer in the field F.
+    fn answer<F: Field>(self) -> u16 {
+        match self {
+            Question::Times(a, b) => F::mul(a, b),
+            Question::Inverse(a) => F::invert(a),
+        }
+    }
+
+    // The answer in the field of this width. A field is a type, so the number has to choose it here.
+    fn answer_at(self, width: u16) -> u16 {
+        match width {
+            4 => self.answer::<Gf4>(),
+            5 => self.answer::<Gf5>(),
+            12 => self.answer::<Gf12>(),
+            13 => self.answer::<Gf13>(),
+            _ => self.answer::<Bit>(),
+        }
     }
 }
 
 // The number in a word, 0 where it is none.
 fn number(word: Option<&str>) -> u16 {
-    match word {
-        Some(text) => match text.parse::<u16>() {
-            Ok(n) => n,
-            Err(_) => 0,
-        },
-        None => 0,
-    }
+    word.and_then(|text| text.parse().ok()).unwrap_or(0)
 }
 
 fn main(rt: HostRuntime) -> anyhow::Result<()> {
@@ -39,10 +43,14 @@ fn main(rt: HostRuntime) -> anyhow::Result<()> {
         let line = line?;
         let mut words = line.split_whitespace();
         let width = number(words.next());
-        let what = words.next().unwrap_or("");
+        let what = words.next();
         let a = number(words.next());
         let b = number(words.next());
-        println!(rt; "{}", answer_at(width, what, a, b))?;
+        let question = match what {
+            Some("times") => Question::Times(a, b),
+            _ => Question::Inverse(a),
+        };
+        println!(rt; "{}", question.answer_at(width))?;
     }
     Ok(())
 }

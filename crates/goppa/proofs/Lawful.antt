@@ -1,5 +1,5 @@
 -- What passes the tests of loading is a key as every slot holds one. Assumes nothing.
-use Rattle.std.proofs.Common.{◌≡◌, ℕ, ◌+◌, ◌*◌, ◌^◌, ◌<◌, ◌≤◌, Bool, true, false, not, eqb, ltb, List, [], ◌∷◌, map, length, get_or, take, Ok, sym, refl, ap, ◌∙◌, subst, ap₂, inl, inr, zero-add, arith, pow_mono}
+use Rattle.std.proofs.Common.{◌≡◌, ℕ, ◌+◌, ◌*◌, ◌^◌, ◌<◌, ◌≤◌, Bool, true, false, not, eqb, ltb, List, [], ◌∷◌, map, length, get_or, take, None, Ok, sym, refl, ap, ◌∙◌, subst, ap₂, inl, inr, zero-add, arith}
 use lib.Bits.{bit_xor}
 use Rattle.std.specs.List.{range_with_len}
 use Rattle.std.proofs.lemmas.List.FromFn.{fill_by_all}
@@ -7,14 +7,15 @@ use Rattle.std.proofs.lemmas.List.{get_or-take, length-take-le}
 use Rattle.std.proofs.lemmas.Bool.{eq-eqb, cases_lt, cond-false, le-ltb}
 use Rattle.galois.specs.Gf.{times, shifted, times_z, inverse_of}
 use Rattle.matrix.specs.Matrix.{sum}
-use Rattle.matrix.specs.Search.{least}
-use Rattle.matrix.proofs.Searches.{none_passes}
+use Rattle.matrix.specs.Search.{least, found}
 use Rattle.matrix.proofs.Sums.{sum-cong}
 use Rattle.params.specs.Sets.{practice12}
 use Rattle.params.specs.declared.numbers.Numbers.{Numbers}
 use Rattle.goppa.specs.Checks.{value, power}
 use Rattle.goppa.specs.Keys.{Elements, Distinct, Rootless, Inverses}
-use Rattle.goppa.specs.Loading.{Key, some, entry_in, support_in, large, repeated, root, key_in, read_as}
+use Rattle.goppa.specs.Loading.{Key, some, entry_in, support_in, large, repeated, root, large_in, repeated_in, root_in, InversesIn, key_in, refused_at, unless, read_as}
+use Rattle.goppa.specs.declared.fault.LoadFault.TheVariants.{Large, Repeated, Root}
+use Rattle.goppa.proofs.Founds.{not-found}
 use Rattle.goppa.proofs.Repeats.{some-true}
 
 never : (b : Bool) → b ≡ true → b ≡ false → ⊥
@@ -26,19 +27,15 @@ not-large m e k h = elim (cases_lt (e k) (2 ^ m)) [
   | inr l ↦ let q : ltb (e k) (2 ^ m) ≡ false = le-ltb (e k) (2 ^ m) l in absurd (never (large m e k) (ap not q) h)
 ]
 
-pub elements-of : (m n : ℕ) (e : ℕ → ℕ) → n ≤ least n (large m e) → Elements m n e
-elements-of m n e h k l = not-large m e k (none_passes n (large m e) h k l)
+pub elements-of : (m n : ℕ) (e : ℕ → ℕ) → found n (large m e) ≡ None → Elements m n e
+elements-of m n e h k l = not-large m e k (not-found n (large m e) h k l)
 
-pub distinct_of : (n : ℕ) (a : ℕ → ℕ) → n ≤ least n (repeated a) → Distinct n a
+pub distinct_of : (n : ℕ) (a : ℕ → ℕ) → found n (repeated a) ≡ None → Distinct n a
 distinct_of n a h i j l b q =
-    never (repeated a j) (some-true j i (λ i. eqb (a i) (a j)) l (eq-eqb (a i) (a j) q)) (none_passes n (repeated a) h j b)
+    never (repeated a j) (some-true j i (λ i. eqb (a i) (a j)) l (eq-eqb (a i) (a j) q)) (not-found n (repeated a) h j b)
 
-pub rootless-of : (m f t n : ℕ) (g a : ℕ → ℕ) → n ≤ least n (root m f t g a) → Rootless m f t n g a
-rootless-of m f t n g a h j b q = never (root m f t g a j) (eq-eqb (value m f t g (a j)) 0 q) (none_passes n (root m f t g a) h j b)
-
--- elements of a narrow field are elements of a wide one
-pub elements-wide : (m w n : ℕ) (e : ℕ → ℕ) → m ≤ w → Elements m n e → Elements w n e
-elements-wide m w n e h l k b = let p : 2 ^ m ≤ 2 ^ w = pow_mono h in let q = l k b in omega arith
+pub rootless-of : (m f t n : ℕ) (g a : ℕ → ℕ) → found n (root m f t g a) ≡ None → Rootless m f t n g a
+rootless-of m f t n g a h j b q = never (root m f t g a j) (eq-eqb (value m f t g (a j)) 0 q) (not-found n (root m f t g a) h j b)
 
 pub value-cong : (m f t : ℕ) (d g : ℕ → ℕ) (x y : ℕ) → ((k : ℕ) → k < t → d k ≡ g k) → x ≡ y → value m f t d x ≡ value m f t g y
 unfolding value
@@ -55,14 +52,14 @@ pub record Lawful (s : Numbers) (d b y : ℕ → ℕ) : Type 0 where
 -- the bytes pass all tests
 pub record Passed (s : Numbers) (bs : List ℕ) : Type 0 where
   pub size : length bs ≡ 2 * (s.t + s.n)
-  pub small : s.t + s.n ≤ least (s.t + s.n) (large s.m (entry_in bs))
-  pub apart : s.n ≤ least s.n (repeated (support_in s.t bs))
-  pub nonzero : s.n ≤ least s.n (root s.m s.f s.t (entry_in bs) (support_in s.t bs))
+  pub small : found (s.t + s.n) (large_in s bs) ≡ None
+  pub apart : found s.n (repeated_in s bs) ≡ None
+  pub nonzero : found s.n (root_in s bs) ≡ None
 
 -- such bytes, read into d, b and y
 pub lawful : (s : Numbers) (bs : List ℕ) (d b y : ℕ → ℕ) → Passed s bs →
     ((k : ℕ) → k < s.t → d k ≡ entry_in bs (0 + k)) → ((j : ℕ) → j < s.n → b j ≡ entry_in bs (s.t + j)) →
-    Inverses s.m s.f s.t s.n (entry_in bs) (support_in s.t bs) y → Lawful s d b y
+    InversesIn s bs y → Lawful s d b y
 lawful s bs d b y passed hd hb hy =
     let g = entry_in bs in
     let a = support_in s.t bs in
@@ -94,26 +91,28 @@ key-is s bs xs ys lx ly hx hy =
 -- such bytes are read
 pub read_ok : (s : Numbers) (bs : List ℕ) → Passed s bs → read_as s bs ≡ Ok (key_in s bs)
 read_ok s bs passed =
+    let last = Ok (key_in s bs) in
+    let rest = unless s.n (root_in s bs) (λ j. Root (s.t + j)) last in
     cond-false _ _ _ (ap not (eq-eqb (length bs) (2 * (s.t + s.n)) passed.size))
-    ∙ cond-false _ _ _ (le-ltb _ (s.t + s.n) passed.small)
-    ∙ cond-false _ _ _ (le-ltb _ s.n passed.apart)
-    ∙ cond-false _ _ _ (le-ltb _ s.n passed.nonzero)
+    ∙ ap (λ o. refused_at o Large (unless s.n (repeated_in s bs) (λ j. Repeated (s.t + j)) rest)) passed.small
+    ∙ ap (λ o. refused_at o (λ j. Repeated (s.t + j)) rest) passed.apart
+    ∙ ap (λ o. refused_at o (λ j. Root (s.t + j)) last) passed.nonzero
 
 abbrev pub fresh-bytes : List ℕ
 fresh-bytes = 8 ∷ 0 ∷ 1 ∷ 0 ∷ 0 ∷ 0 ∷ 1 ∷ 0 ∷ 2 ∷ 0 ∷ 3 ∷ 0 ∷ 4 ∷ 0 ∷ 5 ∷ 0 ∷ 6 ∷ 0 ∷ 7 ∷ 0 ∷ 8 ∷ 0 ∷ 9 ∷ 0 ∷ 10 ∷ 0 ∷ 11 ∷ 0 ∷ []
 
-fresh-small : 14 ≡ least 14 (large 4 (entry_in fresh-bytes))
+fresh-small : found 14 (large 4 (entry_in fresh-bytes)) ≡ None
 unfolding least
 fresh-small = refl
 
-fresh-apart : 12 ≡ least 12 (repeated (support_in 2 fresh-bytes))
+fresh-apart : found 12 (repeated (support_in 2 fresh-bytes)) ≡ None
 unfolding least some
 fresh-apart = refl
 
-fresh-nonzero : 12 ≡ least 12 (root 4 19 2 (entry_in fresh-bytes) (support_in 2 fresh-bytes))
+fresh-nonzero : found 12 (root 4 19 2 (entry_in fresh-bytes) (support_in 2 fresh-bytes)) ≡ None
 unfolding least value power sum times shifted times_z
 fresh-nonzero = refl
 
 -- the key of a new slot
 pub fresh-passed : Passed practice12 fresh-bytes
-fresh-passed = record { size = refl; small = omega (arith, fresh-small); apart = omega (arith, fresh-apart); nonzero = omega (arith, fresh-nonzero) }
+fresh-passed = record { size = refl; small = fresh-small; apart = fresh-apart; nonzero = fresh-nonzero }

@@ -1,3 +1,4 @@
+pub mod Founds
 pub mod Marks
 pub mod Repeats
 pub mod Horner

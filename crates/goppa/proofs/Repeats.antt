@@ -2,17 +2,10 @@
 use Rattle.std.proofs.Common.{◌≡◌, ℕ, zero, suc, ◌+◌, ◌<◌, Bool, true, false, cond, ◌||◌, eqb, sym, refl, ap, ◌∙◌, ap₂, inl, inr, add-one, arith}
 use lib.Bits.{bit_xor, xor_zero_r}
 use Rattle.std.proofs.lemmas.Bool.{cases_eq, eq-eqb, ne_eqb}
+use Rattle.std.proofs.Math.Bool.{or-true, or-false}
 use Rattle.matrix.specs.Matrix.{delta}
 use Rattle.matrix.proofs.Sums.{delta-on, delta-off}
 use Rattle.goppa.specs.Loading.{some, repeated}
-
-or-true : (b : Bool) → (b || true) ≡ true
-or-true true = refl
-or-true false = refl
-
-or-false : (b : Bool) → (b || false) ≡ b
-or-false true = refl
-or-false false = refl
 
 -- what passes below n, passes
 pub some-true : (n k : ℕ) (p : ℕ → Bool) → k < n → p k ≡ true → some n p ≡ true

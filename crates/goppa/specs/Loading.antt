@@ -4,6 +4,10 @@
 -- large         the tests of loading, at one entry each
 -- repeated
 -- root
+-- large_in      the same, on bytes
+-- repeated_in
+-- root_in
+-- InversesIn    the inverses of g on the support in bytes
 -- Key           a key: set, coefficients, support
 -- key_of         the key in a slot
 -- check_matrix   the private check matrix of a slot
@@ -12,10 +16,10 @@
 -- outcome       what loading returns
 -- held          what the slot then holds
 -- told_loading   how loading's faults are told
-use Rattle.std.specs.Prelude.{ℕ, zero, suc, ◌+◌, ◌*◌, ◌^◌, Bool, false, cond, not, ◌||◌, List, [], ◌∷◌, map, length, take, Ok, Err, Result, ◌==◌, nat_eq, nat_lt, slice_index}
+use Rattle.std.specs.Prelude.{ℕ, zero, suc, ◌+◌, ◌*◌, ◌^◌, Bool, false, cond, not, ◌||◌, List, [], ◌∷◌, map, length, take, Option, Some, None, Ok, Err, Result, ◌==◌, nat_eq, nat_lt, slice_index}
 use Rattle.std.specs.List.{range_with_len}
 use Rattle.matrix.specs.Matrix.{Mat}
-use Rattle.matrix.specs.Search.{least}
+use Rattle.matrix.specs.Search.{found}
 use Rattle.params.specs.Sets.{numbers, practice12, named, told_sets}
 use Rattle.params.specs.declared.numbers.Numbers.{Numbers}
 use Rattle.params.specs.declared.set.SetFault.{SetFault}
@@ -23,6 +27,7 @@ use Rattle.refusal.specs.Refusals.{refused}
 use Rattle.refusal.specs.declared.told.Refusal.{Refusal}
 use Rattle.refusal.specs.declared.told.Layer.TheVariants.{Loading}
 use Rattle.goppa.specs.Checks.{value, checks}
+use Rattle.goppa.specs.Keys.{Inverses}
 use Rattle.goppa.specs.declared.fault.LoadFault.{LoadFault}
 use Rattle.goppa.specs.declared.fault.LoadFault.TheVariants.{Set, Length, Large, Repeated, Root}
 use Rattle.goppa.specs.declared.slot.KeySlot.{KeySlot}
@@ -52,6 +57,20 @@ repeated a j = some j (λ i. nat_eq (a i) (a j))
 abbrev pub root : (m f t : ℕ) → (ℕ → ℕ) → (ℕ → ℕ) → ℕ → Bool
 root m f t g a j = value m f t g (a j) == 0
 
+-- the same tests on the bytes of a key of the set s
+abbrev pub large_in : Numbers → List ℕ → ℕ → Bool
+large_in s bs = large s.m (entry_in bs)
+
+abbrev pub repeated_in : Numbers → List ℕ → ℕ → Bool
+repeated_in s bs = repeated (support_in s.t bs)
+
+abbrev pub root_in : Numbers → List ℕ → ℕ → Bool
+root_in s bs = root s.m s.f s.t (entry_in bs) (support_in s.t bs)
+
+-- y_j = 1 / g(a_j), of the key in the bytes
+abbrev pub InversesIn : Numbers → List ℕ → (ℕ → ℕ) → Type 0
+InversesIn s bs y = Inverses s.m s.f s.t s.n (entry_in bs) (support_in s.t bs) y
+
 -- a key: its set, the coefficients g_0 to g_(t-1), the support a_0 to a_(n-1)
 pub record Key : Type 0 where
   pub set : Numbers
@@ -74,18 +93,22 @@ fresh = record { set = practice12; goppa = 8 ∷ 1 ∷ []; support = range_with_
 abbrev pub key_in : Numbers → List ℕ → Key
 key_in s bs = record { set = s; goppa = map (entry_in bs) (range_with_len 0 s.t); support = map (support_in s.t bs) (range_with_len 0 s.n) }
 
+-- the place that was found is refused
+abbrev pub refused_at : Option ℕ → (ℕ → LoadFault) → Result Key LoadFault → Result Key LoadFault
+refused_at (Some k) fault next = Err (fault k)
+refused_at None fault next = next
+
 -- the first place below n that passes the test is refused
 abbrev pub unless : ℕ → (ℕ → Bool) → (ℕ → LoadFault) → Result Key LoadFault → Result Key LoadFault
-unless n p fault next = cond (nat_lt (least n p) n) (Err (fault (least n p))) next
+unless n p fault next = refused_at (found n p) fault next
 
 -- the key in the bytes under the set s, or the refusal
 abbrev pub read_as : Numbers → List ℕ → Result Key LoadFault
 read_as s bs =
-    let a = support_in s.t bs in
     cond (not (length bs == 2 * (s.t + s.n))) (Err (Length (length bs)))
-    (unless (s.t + s.n) (large s.m (entry_in bs)) Large
-    (unless s.n (repeated a) (λ j. Repeated (s.t + j))
-    (unless s.n (root s.m s.f s.t (entry_in bs) a) (λ j. Root (s.t + j))
+    (unless (s.t + s.n) (large_in s bs) Large
+    (unless s.n (repeated_in s bs) (λ j. Repeated (s.t + j))
+    (unless s.n (root_in s bs) (λ j. Root (s.t + j))
     (Ok (key_in s bs)))))
 
 -- the same where the set is found, or its refusal

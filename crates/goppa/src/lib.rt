@@ -7,8 +7,9 @@ ghost use Rattle.std.specs.Prelude.{◌≡◌};
 ghost use Rattle.goppa.specs.Loading.{told_loading};
 ghost use Rattle.goppa.specs.declared.fault.LoadFault.TheVariants.{Set};
 
+mod bytes;
 pub mod fault;
-mod load;
+mod over;
 pub mod slot;
 
 use fault::LoadFault;
@@ -16,6 +17,7 @@ use params::set::SetFault;
 use refusal::Fault;
 use refusal::told::{Layer, Refusal};
 
+// By hand, since `load` promises which error its `?` gives.
 impl From<SetFault> for LoadFault {
     ghost from_gives = { λ e r. r ≡ Set e };
 

@@ -3,7 +3,6 @@ use super::tell;
 use block::SlotKey;
 use goppa::slot::KeySlot;
 use key::Key;
-use refusal::Fault;
 use std::io;
 use words::{Hex, Words};
 
@@ -18,172 +17,49 @@ const KEY20: [u8; 46] = [
     16, 0, 17, 0, 18, 0, 19, 0, 20, 0, 21, 0, 22, 0, 23, 0,
 ];
 
-// The first bytes of a key with two bytes changed, and the name it is loaded by.
-#[derive(Clone, Copy)]
-struct Case {
-    what: &'static str,
-    name: &'static str,
-    length: usize,
-    first: usize,
-    to: u8,
-    second: usize,
-    into: u8,
-}
+// What is loaded: the name, how many bytes of KEY12, and which of them are changed.
+type Case = (&'static str, &'static str, usize, &'static [(usize, u8)]);
 
 // Two keys that are read, then what is refused.
 const CASES: [Case; 16] = [
-    Case {
-        what: "entry 13 is 15",
-        name: "practice12",
-        length: 28,
-        first: 26,
-        to: 15,
-        second: 2,
-        into: 1,
-    },
-    Case {
-        what: "28 bytes",
-        name: "practice12",
-        length: 28,
-        first: 0,
-        to: 8,
-        second: 2,
-        into: 1,
-    },
-    Case {
-        what: "27 bytes",
-        name: "practice12",
-        length: 27,
-        first: 0,
-        to: 8,
-        second: 2,
-        into: 1,
-    },
-    Case {
-        what: "29 bytes",
-        name: "practice12",
-        length: 29,
-        first: 0,
-        to: 8,
-        second: 2,
-        into: 1,
-    },
-    Case {
-        what: "no bytes",
-        name: "practice12",
-        length: 0,
-        first: 0,
-        to: 8,
-        second: 2,
-        into: 1,
-    },
-    Case {
-        what: "name with a space after it",
-        name: "practice12 ",
-        length: 28,
-        first: 0,
-        to: 8,
-        second: 2,
-        into: 1,
-    },
-    Case {
-        what: "name with a capital letter",
-        name: "Practice12",
-        length: 28,
-        first: 0,
-        to: 8,
-        second: 2,
-        into: 1,
-    },
-    Case {
-        what: "empty name",
-        name: "",
-        length: 28,
-        first: 0,
-        to: 8,
-        second: 2,
-        into: 1,
-    },
-    Case {
-        what: "name of another set",
-        name: "practice20",
-        length: 28,
-        first: 0,
-        to: 8,
-        second: 2,
-        into: 1,
-    },
-    Case {
-        what: "entry 13 is 16",
-        name: "practice12",
-        length: 28,
-        first: 26,
-        to: 16,
-        second: 2,
-        into: 1,
-    },
-    Case {
-        what: "entry 0 is 16",
-        name: "practice12",
-        length: 28,
-        first: 0,
-        to: 16,
-        second: 2,
-        into: 1,
-    },
-    Case {
-        what: "entry 5 is 256",
-        name: "practice12",
-        length: 28,
-        first: 10,
-        to: 0,
-        second: 11,
-        into: 1,
-    },
-    Case {
-        what: "entry 9 is entry 4",
-        name: "practice12",
-        length: 28,
-        first: 18,
-        to: 2,
-        second: 2,
-        into: 1,
-    },
-    Case {
-        what: "entry 3 is entry 2, entry 13 is 16",
-        name: "practice12",
-        length: 28,
-        first: 6,
-        to: 0,
-        second: 26,
-        into: 16,
-    },
-    Case {
-        what: "g = x^2 + x",
-        name: "practice12",
-        length: 28,
-        first: 0,
-        to: 0,
-        second: 2,
-        into: 1,
-    },
-    Case {
-        what: "g = x^2 + x, entry 13 is entry 12",
-        name: "practice12",
-        length: 28,
-        first: 0,
-        to: 0,
-        second: 26,
-        into: 10,
-    },
+    ("entry 13 is 15", "practice12", 28, &[(26, 15)]),
+    ("28 bytes", "practice12", 28, &[]),
+    ("27 bytes", "practice12", 27, &[]),
+    ("29 bytes", "practice12", 29, &[]),
+    ("no bytes", "practice12", 0, &[]),
+    ("name with a space after it", "practice12 ", 28, &[]),
+    ("name with a capital letter", "Practice12", 28, &[]),
+    ("empty name", "", 28, &[]),
+    ("name of another set", "practice20", 28, &[]),
+    ("entry 13 is 16", "practice12", 28, &[(26, 16)]),
+    ("entry 0 is 16", "practice12", 28, &[(0, 16)]),
+    ("entry 5 is 256", "practice12", 28, &[(10, 0), (11, 1)]),
+    ("entry 9 is entry 4", "practice12", 28, &[(18, 2)]),
+    (
+        "entry 3 is entry 2, entry 13 is 16",
+        "practice12",
+        28,
+        &[(6, 0), (26, 16)],
+    ),
+    ("g = x^2 + x", "practice12", 28, &[(0, 0)]),
+    (
+        "g = x^2 + x, entry 13 is entry 12",
+        "practice12",
+        28,
+        &[(0, 0), (26, 10)],
+    ),
 ];
 
 fn try_case(rt: &HostRuntime, slot: &mut KeySlot, case: Case) -> io::Result<()> {
+    let (what, name, length, changes) = case;
     let mut bytes = KEY12;
-    tell::put(&mut bytes, case.first, case.to);
-    tell::put(&mut bytes, case.second, case.into);
-    match bytes.get(..case.length) {
-        Some(key) => tell::load(rt, slot, case.what, case.name, key),
+    for (at, value) in changes {
+        if let Some(byte) = bytes.get_mut(*at) {
+            *byte = *value;
+        }
+    }
+    match bytes.get(..length) {
+        Some(key) => tell::load(rt, slot, what, name, key),
         None => Ok(()),
     }
 }
@@ -197,10 +73,10 @@ fn show_column(rt: &HostRuntime, key: &SlotKey<'_>, j: usize, out: &mut [u8]) ->
         }
         Err(fault) => {
             let length = out.len();
-            let words = Words {
-                refusal: fault.refusal(),
-            };
-            println!(rt; "    column {j} into {length} bytes: {words}")
+            println!(rt;
+                "    column {j} into {length} bytes: {}",
+                Words::from(fault)
+            )
         }
     }
 }
@@ -211,10 +87,9 @@ fn show_columns(rt: &HostRuntime, slot: &KeySlot) -> anyhow::Result<()> {
     let (n, width) = (slot.set.n, slot.set.bytes());
     let mut out = vec![in rt.alloc(); 0u8; width]?;
     println!(rt; "  the columns of H:")?;
-    for j in 0..n {
+    for j in 0..=n {
         show_column(rt, &key, j, &mut out)?;
     }
-    show_column(rt, &key, n, &mut out)?;
     for length in [0, 3] {
         let mut wrong = vec![in rt.alloc(); 0u8; length]?;
         show_column(rt, &key, n, &mut wrong)?;
@@ -222,7 +97,7 @@ fn show_columns(rt: &HostRuntime, slot: &KeySlot) -> anyhow::Result<()> {
     Ok(())
 }
 
-pub fn run(rt: &HostRuntime, slot: &mut KeySlot) -> anyhow::Result<()> {
+pub(super) fn run(rt: &HostRuntime, slot: &mut KeySlot) -> anyhow::Result<()> {
     println!(rt; "practice12")?;
     for case in CASES {
         try_case(rt, slot, case)?;

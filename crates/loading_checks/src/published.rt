@@ -1,7 +1,8 @@
 // The published private keys, whole and damaged in one place.
 use super::tell;
 use goppa::slot::KeySlot;
-use std::{fs, io};
+use std::alloc::{AllocError, Global};
+use std::fs;
 
 // A set, its t, and the entries that are made too large and made a copy of the one before.
 #[derive(Clone, Copy)]
@@ -45,101 +46,97 @@ const KEYS: [Published; 5] = [
     },
 ];
 
-// The byte after the low byte of an entry.
-fn high(entry: usize) -> usize {
-    low(entry).saturating_add(1)
+// The entries of a key, two bytes each, the low one first.
+fn entries_of(heap: Global, key: &[u8]) -> Result<Vec<u16>, AllocError> {
+    let (pairs, _) = key.as_chunks::<2>();
+    pairs
+        .iter()
+        .map(|pair| u16::from_le_bytes(*pair))
+        .collect(heap)
 }
 
-fn low(entry: usize) -> usize {
-    entry.saturating_mul(2)
+// A published key by its entries, and the slot that it is loaded into.
+#[derive(Drop)]
+struct Bench<'a> {
+    rt: &'a HostRuntime,
+    slot: &'a mut KeySlot,
+    name: &'static str,
+    entries: Vec<u16>,
 }
 
-fn cut(rt: &HostRuntime, slot: &mut KeySlot, name: &str, key: &[u8]) -> io::Result<()> {
-    match key.get(..key.len().saturating_sub(1)) {
-        Some(less) => tell::load(rt, slot, "one byte less", name, less),
-        None => Ok(()),
-    }
-}
-
-// The high byte of an entry set to FF, and set back.
-fn enlarge(
-    rt: &HostRuntime,
-    slot: &mut KeySlot,
-    name: &str,
-    key: &mut [u8],
-    entry: usize,
-) -> anyhow::Result<()> {
-    let was = tell::get(key, high(entry));
-    tell::put(key, high(entry), 0xff);
-    let what = format!(in rt.alloc(); "the high byte of entry {entry} is FF")?;
-    tell::load(rt, slot, what.as_str(), name, key)?;
-    tell::put(key, high(entry), was);
-    Ok(())
-}
-
-// An entry overwritten by the one before, and set back.
-fn repeat(
-    rt: &HostRuntime,
-    slot: &mut KeySlot,
-    name: &str,
-    key: &mut [u8],
-    entry: usize,
-) -> anyhow::Result<()> {
-    let (first, second) = (tell::get(key, low(entry)), tell::get(key, high(entry)));
-    let before = entry.saturating_sub(1);
-    let (one, other) = (tell::get(key, low(before)), tell::get(key, high(before)));
-    tell::put(key, low(entry), one);
-    tell::put(key, high(entry), other);
-    let what = format!(in rt.alloc(); "entry {entry} is entry {before}")?;
-    tell::load(rt, slot, what.as_str(), name, key)?;
-    tell::put(key, low(entry), first);
-    tell::put(key, high(entry), second);
-    Ok(())
-}
-
-// The first entry from t on that is 0.
-fn zero_entry(key: &[u8], t: usize) -> Option<usize> {
-    for entry in t..key.len() / 2 {
-        if tell::get(key, low(entry)) == 0 && tell::get(key, high(entry)) == 0 {
-            return Some(entry);
+impl Bench<'_> {
+    fn load(&mut self, what: &str, entries: &[u16]) -> anyhow::Result<()> {
+        let mut key = Vec::new(self.rt.alloc());
+        for entry in entries {
+            key.extend_from_slice(&entry.to_le_bytes())?;
         }
+        tell::load(self.rt, self.slot, what, self.name, &key)?;
+        Ok(())
     }
-    None
-}
 
-// All coefficients 0: g = x^t, with the one root 0.
-fn power(
-    rt: &HostRuntime,
-    slot: &mut KeySlot,
-    name: &str,
-    key: &mut [u8],
-    t: usize,
-) -> anyhow::Result<()> {
-    for at in 0..low(t) {
-        tell::put(key, at, 0);
+    // The high byte of an entry set to FF.
+    fn enlarge(&mut self, at: usize) -> anyhow::Result<()> {
+        let mut entries = self.entries.clone()?;
+        if let Some(entry) = entries.get_mut(at) {
+            *entry |= 0xff00;
+        }
+        let what = format!(in self.rt.alloc(); "the high byte of entry {at} is FF")?;
+        self.load(what.as_str(), &entries)
     }
-    let what = match zero_entry(key, t) {
-        Some(entry) => format!(in rt.alloc(); "g = x^{t}, entry {entry} is 0")?,
-        None => format!(in rt.alloc(); "g = x^{t}, no support entry is 0")?,
-    };
-    tell::load(rt, slot, what.as_str(), name, key)?;
-    Ok(())
+
+    // An entry overwritten by the one before.
+    fn repeat(&mut self, at: usize) -> anyhow::Result<()> {
+        let mut entries = self.entries.clone()?;
+        let before = at.saturating_sub(1);
+        if at < entries.len() {
+            entries[at] = entries[before];
+        }
+        let what = format!(in self.rt.alloc(); "entry {at} is entry {before}")?;
+        self.load(what.as_str(), &entries)
+    }
+
+    // All coefficients 0: g = x^t, with the one root 0.
+    fn power(&mut self, t: usize) -> anyhow::Result<()> {
+        let heap = self.rt.alloc();
+        let mut entries = self.entries.clone()?;
+        for coefficient in entries.iter_mut().take(t) {
+            *coefficient = 0;
+        }
+        let zero = entries
+            .iter()
+            .enumerate()
+            .skip(t)
+            .find(|(_, entry)| **entry == 0);
+        let what = match zero {
+            Some((at, _)) => format!(in heap; "g = x^{t}, entry {at} is 0")?,
+            None => format!(in heap; "g = x^{t}, no support entry is 0")?,
+        };
+        self.load(what.as_str(), &entries)
+    }
 }
 
 fn try_key(rt: &HostRuntime, slot: &mut KeySlot, one: Published) -> anyhow::Result<()> {
     let name = one.name;
-    let mut key = fs::read(rt, format!(in rt.alloc(); "{name}-0.key")?.as_str())?;
+    let key = fs::read(rt, format!(in rt.alloc(); "{name}-0.key")?.as_str())?;
     println!(rt; "{name}")?;
     tell::load(rt, slot, "whole", name, &key)?;
-    cut(rt, slot, name, &key)?;
-    enlarge(rt, slot, name, &mut key, one.large)?;
-    repeat(rt, slot, name, &mut key, one.copied)?;
-    tell::load(rt, slot, "whole again", name, &key)?;
-    power(rt, slot, name, &mut key, one.t)?;
-    Ok(())
+    if let Some((_, less)) = key.split_last() {
+        tell::load(rt, slot, "one byte less", name, less)?;
+    }
+    let entries = entries_of(rt.alloc(), &key)?;
+    let mut bench = Bench {
+        rt,
+        slot,
+        name,
+        entries,
+    };
+    bench.enlarge(one.large)?;
+    bench.repeat(one.copied)?;
+    tell::load(rt, bench.slot, "whole again", name, &key)?;
+    bench.power(one.t)
 }
 
-pub fn run(rt: &HostRuntime, slot: &mut KeySlot) -> anyhow::Result<()> {
+pub(super) fn run(rt: &HostRuntime, slot: &mut KeySlot) -> anyhow::Result<()> {
     for one in KEYS {
         try_key(rt, slot, one)?;
     }

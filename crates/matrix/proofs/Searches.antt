@@ -1,7 +1,7 @@
 -- Laws of searches. Assumes nothing.
-use Rattle.std.proofs.Common.{◌≡◌, ℕ, zero, suc, ◌<◌, ◌≤◌, Bool, true, false, cond, ◌⊎◌, sym, refl, ap, ◌∙◌, ap₂, inl, inr, arith}
-use Rattle.std.proofs.lemmas.Bool.{cond-true, cond-false}
-use Rattle.matrix.specs.Search.{least}
+use Rattle.std.proofs.Common.{◌≡◌, ℕ, zero, suc, ◌<◌, ◌≤◌, Bool, true, false, cond, ltb, Some, None, ◌⊎◌, sym, refl, ap, ◌∙◌, ap₂, inl, inr, arith}
+use Rattle.std.proofs.lemmas.Bool.{cond-true, cond-false, lt-ltb, le-ltb}
+use Rattle.matrix.specs.Search.{least, found}
 
 -- a number that passes, where none below it does, is the first
 pub least-is : (n r : ℕ) (p : ℕ → Bool) → r < n → ((k : ℕ) → k < r → p k ≡ false) → p r ≡ true → r ≡ least n p
@@ -53,3 +53,17 @@ least-passes (suc n) p h = elim (true-or-false (p 0)) [
       let q : cond (p 0) 0 (suc (least n (λ k. p (suc k)))) ≡ suc (least n (λ k. p (suc k))) = cond-false (p 0) _ _ e in
       ap p q ∙ least-passes n (λ k. p (suc k)) (omega arith)
 ]
+
+-- the same of a search that may find none
+pub found-is : (n r : ℕ) (p : ℕ → Bool) → r < n → ((k : ℕ) → k < r → p k ≡ false) → p r ≡ true → Some r ≡ found n p
+found-is n r p h b f =
+    let e : r ≡ least n p = least-is n r p h b f in
+    ap Some e ∙ sym (cond-true (ltb (least n p) n) _ _ (lt-ltb (least n p) n (omega arith)))
+
+pub found-none : (n : ℕ) (p : ℕ → Bool) → ((k : ℕ) → k < n → p k ≡ false) → None ≡ found n p
+found-none n p b =
+    let e : n ≡ least n p = least-none n p b in
+    sym (cond-false (ltb (least n p) n) _ _ (le-ltb (least n p) n (omega arith)))
+
+pub found-cong : (n : ℕ) (p q : ℕ → Bool) → ((k : ℕ) → k < n → p k ≡ q k) → found n p ≡ found n q
+found-cong n p q h = ap (λ l. cond (ltb l n) (Some l) None) (least-cong n p q h)

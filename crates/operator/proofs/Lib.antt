@@ -1,3 +1,4 @@
 pub mod Made
 pub mod Products
 pub mod Chains
+pub mod Chunks

@@ -23,6 +23,10 @@ pub record RowAction (n : ℕ) (m : Mat) (v before after : List ℕ) (r : Result
   pub result : r ≡ answer n (length v) (length before)
   pub written : after ≡ cond (is_ok r) (pack n (apply_row bits n m (bits_of v))) before
 
+-- rows for columns
+abbrev pub transposed : Mat → Mat
+transposed m i j = m j i
+
 -- the zero matrix
 abbrev pub zeros : Mat
 zeros i j = 0

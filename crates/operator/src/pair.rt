@@ -4,15 +4,15 @@ ghost use Rattle.galois.specs.Bit.{bits};
 ghost use Rattle.matrix.specs.Matrix.{times};
 ghost use Rattle.bits.specs.Bits.{bytes_for};
 ghost use Rattle.guard.specs.Zero.{AllZero};
-ghost use Rattle.operator.specs.Actions.{ColumnAction, RowAction, pair_check, pair_order, pair_matrix, pair_bounded, zeros};
+ghost use Rattle.operator.specs.Actions.{ColumnAction, pair_check, pair_order, pair_matrix, pair_bounded, zeros, transposed};
 
 use super::fault::{MakeFault, OperatorFault};
-use super::{Operator, check_lengths};
+use super::{LARGEST, Operator, check_lengths};
 use bits::bytes_for;
 use guard::Wiped;
 
 // The bytes of the longest vector.
-const LONGEST: usize = 208;
+const LONGEST: usize = LARGEST / 8;
 
 // Where the sizes differ it is the 1 by 1 zero matrix.
 #[derive(Drop)]
@@ -46,28 +46,66 @@ impl<A: Operator, B: Operator> Operator for Pair<A, B> {
     }
 
     fn column_action(&self, v: &[u8], out: &mut [u8]) -> Result<(), OperatorFault> {
-        let size = self.first.size();
-        if size != self.second.size() {
-            return zero_action(v, out);
-        }
-        let length = bytes_for(size);
-        let mut middle = [0u8; LONGEST];
-        chain_columns(&self.first, &self.second, v, &mut middle[0..length], out)
+        product_action(&self.first, &self.second, v, out)
     }
 
+    // v (a b) is (b' a') v of the transposed.
     fn row_action(&self, v: &[u8], out: &mut [u8]) -> Result<(), OperatorFault> {
-        let size = self.first.size();
-        if size != self.second.size() {
-            return zero_action(v, out);
-        }
-        let length = bytes_for(size);
-        let mut middle = [0u8; LONGEST];
-        chain_rows(&self.first, &self.second, v, &mut middle[0..length], out)
+        let (first, second) = (&self.first, &self.second);
+        product_action(
+            &Transposed { of: second },
+            &Transposed { of: first },
+            v,
+            out,
+        )
     }
 }
 
+// The operator of the transposed matrix: the two actions change places.
+#[derive(Drop)]
+struct Transposed<O: Operator> {
+    of: O,
+}
+
+impl<O: Operator> Operator for Transposed<O> {
+    ghost order = { λ t. O.order t.of };
+
+    ghost matrix = { λ t. transposed (O.matrix t.of) };
+
+    ghost bounded = { λ t. O.bounded t.of };
+
+    fn size(&self) -> usize {
+        self.of.size()
+    }
+
+    fn column_action(&self, v: &[u8], out: &mut [u8]) -> Result<(), OperatorFault> {
+        self.of.row_action(v, out)
+    }
+
+    fn row_action(&self, v: &[u8], out: &mut [u8]) -> Result<(), OperatorFault> {
+        self.of.column_action(v, out)
+    }
+}
+
+// The column action of the pair of a and b.
+fn product_action<A: Operator, B: Operator>(
+    a: &A,
+    b: &B,
+    v: &[u8],
+    out: &mut [u8],
+) -> Result<(), OperatorFault>
+    ensures { ColumnAction (pair_order (A.order a.now) (B.order b.now)) (pair_matrix (A.order a.now) (A.matrix a.now) (B.order b.now) (B.matrix b.now)) v.now out.old out.new result }
+{
+    let size = a.size();
+    if size != b.size() {
+        return zero_action(v, out);
+    }
+    let mut middle = [0u8; LONGEST];
+    chain(a, b, v, &mut middle[..bytes_for(size)], out)
+}
+
 // a (b v), by way of b v in `middle`, which is cleared.
-fn chain_columns<A: Operator, B: Operator>(
+fn chain<A: Operator, B: Operator>(
     a: &A,
     b: &B,
     v: &[u8],
@@ -84,28 +122,9 @@ fn chain_columns<A: Operator, B: Operator>(
     a.column_action(guard.bytes, out)
 }
 
-// (v a) b, by way of v a in `middle`, which is cleared.
-fn chain_rows<A: Operator, B: Operator>(
-    a: &A,
-    b: &B,
-    v: &[u8],
-    middle: &mut [u8],
-    out: &mut [u8],
-) -> Result<(), OperatorFault>
-    requires one { A.order a.now ≡ B.order b.now }
-    requires room { length middle.old ≡ bytes_for (A.order a.now) }
-    ensures acts { RowAction (A.order a.now) (times bits (A.order a.now) (A.matrix a.now) (B.matrix b.now)) v.now out.old out.new result }
-    ensures cleared { AllZero middle.new }
-{
-    let guard = Wiped { bytes: middle };
-    a.row_action(v, guard.bytes)?;
-    b.row_action(guard.bytes, out)
-}
-
-// Both actions of the 1 by 1 zero matrix.
+// The column action of the 1 by 1 zero matrix.
 fn zero_action(v: &[u8], out: &mut [u8]) -> Result<(), OperatorFault>
-    ensures column { ColumnAction 1 zeros v.now out.old out.new result }
-    ensures row { RowAction 1 zeros v.now out.old out.new result }
+    ensures { ColumnAction 1 zeros v.now out.old out.new result }
 {
     check_lengths(1, v, out)?;
     out[0] = 0;

@@ -75,10 +75,9 @@ fn combine_rows(m: StoredMatrix<'_>, v: &[u8], out: &mut [u8])
     ensures { out.new ≡ pack m.entry.n (apply_row two m.entry.n (of_rows (bytes_for m.entry.n) m.entry.rows.now) (bits_of v.now)) }
 {
     out.fill(0);
-    let length = bytes_for(m.n);
-    for i in 0..m.n {
+    for (i, row) in m.rows.chunks_exact(bytes_for(m.n)).enumerate() {
         if get_bit(v, i) == 1 {
-            xor_row(m.rows, i * length, out);
+            xor_row(row, 0, out);
         }
     }
     clear_pads(out, m.n);

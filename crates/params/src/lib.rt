@@ -26,7 +26,7 @@ fn set_of(row: Numbers) -> ParameterSet
     ParameterSet { m, f, t, n, terms }
 }
 
-// The set of a name.
+// The set of a name: here a name meets its row of the table.
 pub fn find_set(name: &str) -> Result<ParameterSet, SetFault>
     ensures { numbers_or result ≡ named name.now }
 {

@@ -2,7 +2,7 @@
 // A fault of a lower layer stays whole inside the fault of the layer above, and tells its own.
 #![tactic(auto)]
 
-ghost use Rattle.std.specs.Prelude.{◌≡◌, ℕ, min};
+ghost use Rattle.std.specs.Prelude.{◌≡◌};
 ghost use Rattle.refusal.specs.Refusals.{refused};
 ghost use Rattle.refusal.specs.declared.told.Refusal.{Refusal};
 
@@ -15,11 +15,10 @@ impl Refusal {
     pub fn new(layer: Layer, number: u8, place: usize) -> Refusal
         ensures { result ≡ refused layer number place }
     {
-        let place = if place < 65535 { place as u16 } else { 65535 };
         Refusal {
             layer,
             number,
-            place,
+            place: u16::try_from(place).unwrap_or(u16::MAX),
         }
     }
 }

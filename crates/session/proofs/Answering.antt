@@ -1,13 +1,14 @@
 -- From the step of a frame to the answer. Assumes nothing.
-use Rattle.std.proofs.Common.{◌≡◌, ℕ, ◌+◌, ◌≤◌, List, [], length, Some, None, Ok, Err, sym, ap, ◌∙◌, subst, arith}
+use Rattle.std.proofs.Common.{◌≡◌, ℕ, ◌+◌, ◌<◌, ◌≤◌, List, [], length, Some, None, Ok, Err, Result, sym, ap, ◌∙◌, subst, arith}
 use Rattle.std.proofs.lemmas.Bool.Decides.{nat_tests}
+use Rattle.matrix.specs.Matrix.{Mat}
 use Rattle.bits.specs.Bits.{bytes_for}
 use Rattle.key.specs.declared.sizes.Sizes.{Sizes}
 use Rattle.session.specs.declared.state.Answer.{Answer}
 use Rattle.session.specs.declared.fault.SessionFault.{SessionFault}
-use Rattle.session.specs.Table.{first, Secret, Lent, product, row_in, memory_lines, frame_lines}
+use Rattle.session.specs.Table.{first, refused_by, Secret, Lent, product, row_in, memory_lines, frame_lines}
 use Rattle.session.specs.Answers.{Stepped, Answered, either, unless, reply_of, refusal_reply, laid, laid_unless, rows_after, phase_after, inverse_after, granted}
-use Rattle.session.proofs.Steps.{first-kept, first-after, tried-refused, tried-granted}
+use Rattle.session.proofs.Steps.{refused-is, granted-is, first-kept, first-after, tried-refused, tried-granted}
 
 -- memories that fit
 pub same_rows : (own set : Sizes) (order : ℕ) (m : Lent) → first (memory_lines own set order m) ≡ None → own.rows ≡ set.rows
@@ -18,9 +19,10 @@ reply-fits own set order m h = grind (arith, nat_tests)
 
 module _ (own : Sizes) (k : Secret) (phase taken : ℕ) (inverse : List ℕ) (m : Lent) (f old : List ℕ) where
   -- a memory does not fit
-  pub answered-unfit : (e : SessionFault) → first (memory_lines own k.set k.order m) ≡ Some e
+  pub answered-unfit : (e : SessionFault) → Err e ≡ refused_by (first (memory_lines own k.set k.order m))
       → Answered own k phase taken inverse m f old (record { length = 0; fault = Some e }) phase taken inverse old
-  answered-unfit e p =
+  answered-unfit e q =
+      let p : first (memory_lines own k.set k.order m) ≡ Some e = refused-is (first (memory_lines own k.set k.order m)) e q in
       let w : [] ≡ reply_of own k.set k.order (product k) phase taken m f = ap (λ o. unless o (either (first (frame_lines k.set.rows (product k) phase taken f)) (granted (product k) phase taken f))) (sym p) in
       record {
         fault = sym (first-kept (memory_lines own k.set k.order m) (frame_lines k.set.rows (product k) phase taken f) e p);
@@ -31,43 +33,56 @@ module _ (own : Sizes) (k : Secret) (phase taken : ℕ) (inverse : List ℕ) (m 
         memory = ap (λ y. inverse_after k.set.rows k.blinding taken (row_in f) y inverse) w;
       }
 
-  module _ (fits : first (memory_lines own k.set k.order m) ≡ None) (phase' taken' : ℕ) (inverse' reply : List ℕ) where
+  module _ (x : Unit {0}) (passed : Ok x ≡ refused_by (first (memory_lines own k.set k.order m))) where
+    fits : first (memory_lines own k.set k.order m) ≡ None
+    fits = granted-is (first (memory_lines own k.set k.order m)) x passed
+
+    -- then there is room for a refusal
+    pub refusal-fits : 0 < k.set.rows → 4 ≤ m.reply
+    refusal-fits some = let room = reply-fits own k.set k.order m fits in omega arith
+
     -- the reply is that of the frame
     reply-is : either (first (frame_lines k.set.rows (product k) phase taken f)) (granted (product k) phase taken f) ≡ reply_of own k.set k.order (product k) phase taken m f
     reply-is = ap (λ o. unless o (either (first (frame_lines k.set.rows (product k) phase taken f)) (granted (product k) phase taken f))) (sym fits)
 
-    pub answered-granted : (l : ℕ) → Stepped own.rows k.blinding (frame_lines own.rows (product k) phase taken f) (granted (product k) phase taken f) phase taken inverse (row_in f) old (Ok l) phase' taken' inverse' reply
-        → Answered own k phase taken inverse m f old (record { length = l; fault = None }) phase' taken' inverse' reply
-    answered-granted l step' =
-        let r = granted (product k) phase taken f in
-        let ls = frame_lines k.set.rows (product k) phase taken f in
-        let step : Stepped k.set.rows k.blinding ls r phase taken inverse (row_in f) old (Ok l) phase' taken' inverse' reply
-        = subst (λ n. Stepped n k.blinding (frame_lines n (product k) phase taken f) r phase taken inverse (row_in f) old (Ok l) phase' taken' inverse' reply) (same_rows own k.set k.order m fits) step' in
-        let none = tried-granted (first ls) r l step.result in
-        record {
-          fault = sym none.0 ∙ sym (first-after (memory_lines own k.set k.order m) ls fits);
-          long = none.1 ∙ ap (λ o. length (either o r)) (sym none.0) ∙ ap length reply-is;
-          bytes = step.bytes ∙ ap (λ o. laid_unless o r old) none.0 ∙ ap (λ o. laid (either o r) old) (sym none.0) ∙ ap (λ y. laid y old) reply-is;
-          rows = step.rows ∙ ap (rows_after taken) reply-is;
-          at_phase = step.at_phase ∙ ap (phase_after k.set.rows phase taken) reply-is;
-          memory = step.memory ∙ ap (λ y. inverse_after k.set.rows k.blinding taken (row_in f) y inverse) reply-is;
-        }
+    -- a step that R and B answer, and then the secret's
+    module _ (R : Mat) (B : List (List ℕ)) (same : R ≡ k.blinding) (whole : B ≡ product k) (phase' taken' : ℕ) (inverse' reply : List ℕ) where
+      step-is : (a : Result ℕ SessionFault) → Stepped own.rows R (frame_lines own.rows B phase taken f) (granted B phase taken f) phase taken inverse (row_in f) old a phase' taken' inverse' reply
+          → Stepped k.set.rows k.blinding (frame_lines k.set.rows (product k) phase taken f) (granted (product k) phase taken f) phase taken inverse (row_in f) old a phase' taken' inverse' reply
+      step-is a s =
+          let P : ℕ → Mat → List (List ℕ) → Type 0 = λ n M C. Stepped n M (frame_lines n C phase taken f) (granted C phase taken f) phase taken inverse (row_in f) old a phase' taken' inverse' reply in
+          subst (λ n. P n k.blinding (product k)) (same_rows own k.set k.order m fits) (subst (P own.rows k.blinding) whole (subst (λ M. P own.rows M B) same s))
 
-    pub answered-refused : (e : SessionFault) (a : Answer) (told : List ℕ) → Stepped own.rows k.blinding (frame_lines own.rows (product k) phase taken f) (granted (product k) phase taken f) phase taken inverse (row_in f) old (Err e) phase' taken' inverse' reply
-        → a.fault ≡ Some e → a.length ≡ length (refusal_reply e) → told ≡ laid (refusal_reply e) reply
-        → Answered own k phase taken inverse m f old a phase' taken' inverse' told
-    answered-refused e a told step' is-fault is-long is-told =
-        let r = granted (product k) phase taken f in
-        let ls = frame_lines k.set.rows (product k) phase taken f in
-        let step : Stepped k.set.rows k.blinding ls r phase taken inverse (row_in f) old (Err e) phase' taken' inverse' reply
-        = subst (λ n. Stepped n k.blinding (frame_lines n (product k) phase taken f) r phase taken inverse (row_in f) old (Err e) phase' taken' inverse' reply) (same_rows own k.set k.order m fits) step' in
-        let some : first ls ≡ Some e = tried-refused (first ls) r e step.result in
-        let kept : reply ≡ old = step.bytes ∙ ap (λ o. laid_unless o r old) some in
-        record {
-          fault = is-fault ∙ sym some ∙ sym (first-after (memory_lines own k.set k.order m) ls fits);
-          long = is-long ∙ ap (λ o. length (either o r)) (sym some) ∙ ap length reply-is;
-          bytes = is-told ∙ ap (laid (refusal_reply e)) kept ∙ ap (λ o. laid (either o r) old) (sym some) ∙ ap (λ y. laid y old) reply-is;
-          rows = step.rows ∙ ap (rows_after taken) reply-is;
-          at_phase = step.at_phase ∙ ap (phase_after k.set.rows phase taken) reply-is;
-          memory = step.memory ∙ ap (λ y. inverse_after k.set.rows k.blinding taken (row_in f) y inverse) reply-is;
-        }
+      pub answered-granted : (l : ℕ) → Stepped own.rows R (frame_lines own.rows B phase taken f) (granted B phase taken f) phase taken inverse (row_in f) old (Ok l) phase' taken' inverse' reply
+          → Answered own k phase taken inverse m f old (record { length = l; fault = None }) phase' taken' inverse' reply
+      answered-granted l s =
+          let r = granted (product k) phase taken f in
+          let ls = frame_lines k.set.rows (product k) phase taken f in
+          let step = step-is (Ok l) s in
+          let none = tried-granted (first ls) r l step.result in
+          record {
+            fault = sym none.0 ∙ sym (first-after (memory_lines own k.set k.order m) ls fits);
+            long = none.1 ∙ ap (λ o. length (either o r)) (sym none.0) ∙ ap length reply-is;
+            bytes = step.bytes ∙ ap (λ o. laid_unless o r old) none.0 ∙ ap (λ o. laid (either o r) old) (sym none.0) ∙ ap (λ y. laid y old) reply-is;
+            rows = step.rows ∙ ap (rows_after taken) reply-is;
+            at_phase = step.at_phase ∙ ap (phase_after k.set.rows phase taken) reply-is;
+            memory = step.memory ∙ ap (λ y. inverse_after k.set.rows k.blinding taken (row_in f) y inverse) reply-is;
+          }
+
+      pub answered-refused : (e : SessionFault) (a : Answer) (told : List ℕ) → Stepped own.rows R (frame_lines own.rows B phase taken f) (granted B phase taken f) phase taken inverse (row_in f) old (Err e) phase' taken' inverse' reply
+          → a.fault ≡ Some e → a.length ≡ length (refusal_reply e) → told ≡ laid (refusal_reply e) reply
+          → Answered own k phase taken inverse m f old a phase' taken' inverse' told
+      answered-refused e a told s is-fault is-long is-told =
+          let r = granted (product k) phase taken f in
+          let ls = frame_lines k.set.rows (product k) phase taken f in
+          let step = step-is (Err e) s in
+          let some : first ls ≡ Some e = tried-refused (first ls) r e step.result in
+          let kept : reply ≡ old = step.bytes ∙ ap (λ o. laid_unless o r old) some in
+          record {
+            fault = is-fault ∙ sym some ∙ sym (first-after (memory_lines own k.set k.order m) ls fits);
+            long = is-long ∙ ap (λ o. length (either o r)) (sym some) ∙ ap length reply-is;
+            bytes = is-told ∙ ap (laid (refusal_reply e)) kept ∙ ap (λ o. laid (either o r) old) (sym some) ∙ ap (λ y. laid y old) reply-is;
+            rows = step.rows ∙ ap (rows_after taken) reply-is;
+            at_phase = step.at_phase ∙ ap (phase_after k.set.rows phase taken) reply-is;
+            memory = step.memory ∙ ap (λ y. inverse_after k.set.rows k.blinding taken (row_in f) y inverse) reply-is;
+          }

@@ -1,4 +1,3 @@
-pub mod Replies
 pub mod Products
 pub mod Rows
 pub mod Steps

@@ -1,5 +1,5 @@
 -- A row in its place of the inverse memory. Assumes nothing.
-use Rattle.std.proofs.Common.{◌≡◌, ℕ, ◌+◌, ◌*◌, ◌<◌, ◌≤◌, true, ltb, ap, subst, mul-le-mul_right, suc-mul, arith, ltb-true}
+use Rattle.std.proofs.Common.{◌≡◌, ℕ, ◌+◌, ◌*◌, ◌<◌, ◌≤◌, true, ltb, subst, mul-le-mul_right, suc-mul, arith, ltb-true}
 use Rattle.bits.specs.Bits.{bytes_for}
 use Rattle.session.specs.State.{agrees}
 use Rattle.session.specs.declared.state.Phase.{Phase}
@@ -9,7 +9,5 @@ use Rattle.session.specs.declared.state.Phase.TheVariants.{Receiving}
 pub row-left : (p : Phase) (i n : ℕ) → agrees p i n ≡ true → p ≡ Receiving → i < n
 row-left p i n h e = let below : ltb i n ≡ true = subst (λ q. agrees q i n ≡ true) e h in omega (arith, ltb-true)
 
-pub row_fits : (i n l k m : ℕ) → i < n → l ≡ bytes_for n → k ≡ bytes_for n → m ≡ n * bytes_for n → i * l + k ≤ m
-row_fits i n l k m h el ek em =
-    let at : i * l ≡ i * bytes_for n = ap (λ x. i * x) el in
-    omega (arith, suc-mul i (bytes_for n), mul-le-mul_right (bytes_for n) h)
+pub row_fits : (i n m : ℕ) → i < n → m ≡ n * bytes_for n → i * bytes_for n + bytes_for n ≤ m
+row_fits i n m h em = omega (arith, suc-mul i (bytes_for n), mul-le-mul_right (bytes_for n) h)

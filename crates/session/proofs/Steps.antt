@@ -4,8 +4,8 @@ use Rattle.std.proofs.lemmas.Bool.{eq-eqb}
 use Rattle.matrix.specs.Matrix.{Mat}
 use Rattle.bits.specs.Bits.{bytes_for}
 use Rattle.session.specs.declared.fault.SessionFault.{SessionFault}
-use Rattle.session.specs.declared.fault.SessionFault.TheVariants.{Kind, Length, Phase, Turn}
-use Rattle.session.specs.Table.{Line, line, first, refused_by, kind, index, row_in, combination_in, known, barred, frame_length, reading_lines, frame_lines, column_lines, unit_lines, row_lines, combination_lines}
+use Rattle.session.specs.declared.fault.SessionFault.TheVariants.{Kind, Length, Phase}
+use Rattle.session.specs.Table.{Line, line, first, refused_by, kind, index, row_in, combination_in, known, barred, frame_length, reading_lines, frame_lines, column_lines, row_lines, combination_lines}
 use Rattle.session.specs.Answers.{Stepped, tried, either, laid_unless, rows_after, phase_after, inverse_after, granted, column_reply, row_reply, combination_reply, status_reply}
 
 -- what a refusal tells of the lines that it came from
@@ -41,6 +41,13 @@ first-after (l ∷ ls) ms p = go l.when refl (λ h. first-after ls ms h)
     go : (b : Bool) → l.when ≡ b → (first ls ≡ None → first (ls ++ ms) ≡ first ms) → first ((l ∷ ls) ++ ms) ≡ first ms
     go true q h = absurd (let e : Some l.fault ≡ None = ap (λ b. cond b (Some l.fault) (first ls)) (sym q) ∙ p in let z : ◌≡◌ {A = ℕ} 0 1 = cc in omega arith)
     go false q h = ap (λ b. cond b (Some l.fault) (first (ls ++ ms))) q ∙ h (ap (λ b. cond b (Some l.fault) (first ls)) (sym q) ∙ p)
+
+-- a check by the lines ls, then the checks by the lines ms
+pub refused-before : (ls ms : List Line) (e : SessionFault) → Err e ≡ refused_by (first ls) → Err e ≡ refused_by (first (ls ++ ms))
+refused-before ls ms e p = ap refused_by (sym (first-kept ls ms e (refused-is (first ls) e p)))
+
+pub refused-after : (ls ms : List Line) (x : Unit {0}) → Ok x ≡ refused_by (first ls) → refused_by (first ms) ≡ refused_by (first (ls ++ ms))
+refused-after ls ms x p = ap refused_by (sym (first-after ls ms (granted-is (first ls) x p)))
 
 module _ (n : ℕ) (R : Mat) (phase taken : ℕ) (inverse s old : List ℕ) (a : Result ℕ SessionFault) where
   -- a refusal changes nothing
@@ -79,19 +86,11 @@ module _ (n : ℕ) (B : List (List ℕ)) (phase taken : ℕ) (f : List ℕ) wher
   unread e p = first-kept (reading_lines (bytes_for n) f)
       (line (barred (kind f) phase) (Phase phase) ∷ cond (eqb (kind f) 17) (column_lines n (index f)) (cond (eqb (kind f) 18) (row_lines n B taken (index f) (row_in f)) (cond (eqb (kind f) 19) (combination_lines n B (combination_in f)) []))) e (sym p)
 
-  pub row_first : kind f ≡ 18 → length f ≡ bytes_for n + 3 → phase ≡ 0 → index f ≡ taken → first (frame_lines n B phase taken f) ≡ first (unit_lines n B taken (row_in f))
-  row_first ek el ep ei =
-      let go : at (kind f) (length f) phase (index f) ≡ at 18 (bytes_for n + 3) 0 taken = λ t. at (ek t) (el t) (ep t) (ei t) in
-      go ∙ (λ t. cond (not (eq-eqb (bytes_for n + 3) (bytes_for n + 3) refl t)) (Some (Length (bytes_for n + 3))) (cond (not (eq-eqb taken taken refl t)) (Some (Turn taken)) (first (unit_lines n B taken (row_in f)))))
-
   pub combination-first : kind f ≡ 19 → length f ≡ bytes_for n + 1 → phase ≡ 0 → first (frame_lines n B phase taken f) ≡ first (combination_lines n B (combination_in f))
   combination-first ek el ep =
       let go : at (kind f) (length f) phase (index f) ≡ at 19 (bytes_for n + 1) 0 (index f) = λ t. at (ek t) (el t) (ep t) (index f) in
       go ∙ (λ t. cond (not (eq-eqb (bytes_for n + 1) (bytes_for n + 1) refl t)) (Some (Length (bytes_for n + 1))) (first (combination_lines n B (combination_in f))))
 
   -- the reply, by kind
-  pub granted-row : kind f ≡ 18 → granted B phase taken f ≡ row_reply taken
-  granted-row e = ap (λ k. cond (eqb k 17) (column_reply B (index f)) (cond (eqb k 18) (row_reply taken) (cond (eqb k 19) combination_reply (status_reply phase taken)))) e
-
   pub granted-combination : kind f ≡ 19 → granted B phase taken f ≡ combination_reply
   granted-combination e = ap (λ k. cond (eqb k 17) (column_reply B (index f)) (cond (eqb k 18) (row_reply taken) (cond (eqb k 19) combination_reply (status_reply phase taken)))) e

@@ -1,9 +1,31 @@
 -- What reading a frame gives. Assumes nothing.
-use Rattle.std.specs.Prelude.{◌≡◌, ℕ, ◌+◌, List, length, Some, Ok, Err, Result}
+-- word_of             a number from its two bytes
+-- kind_number, Kinded the number of a kind, and what telling a kind from a number gives
+-- Reads               what reading a frame gives
+use Rattle.std.specs.Prelude.{◌≡◌, ℕ, ◌+◌, ◌*◌, true, not, List, length, Some, Ok, Err, Result}
 use Rattle.session.specs.declared.fault.SessionFault.{SessionFault}
+use Rattle.session.specs.declared.fault.SessionFault.TheVariants as refusals
 use Rattle.session.specs.declared.frame.Frame.{Frame}
 use Rattle.session.specs.declared.frame.Frame.TheVariants.{Column, Row, Combination, Status}
-use Rattle.session.specs.Table.{first, kind, index, row_in, combination_in, reading_lines}
+use Rattle.session.specs.declared.frame.Kind.{Kind}
+use Rattle.session.specs.declared.frame.Kind.TheVariants as kinds
+use Rattle.session.specs.Table.{first, kind, index, row_in, combination_in, known, reading_lines}
+
+-- a number from its bytes, the low one first
+abbrev pub word_of : ℕ → ℕ → ℕ
+word_of low high = low + 256 * high
+
+-- the number of a kind
+abbrev pub kind_number : Kind → ℕ
+kind_number kinds.Column = 17
+kind_number kinds.Row = 18
+kind_number kinds.Combination = 19
+kind_number kinds.Status = 20
+
+-- the kind of a number; a number of no kind is refused
+abbrev pub Kinded : ℕ → Result Kind SessionFault → Type 0
+Kinded k (Ok x) = k ≡ kind_number x
+Kinded k (Err e) = (not (known k) ≡ true) × (e ≡ refusals.Kind k)
 
 -- reading the frame f, at L bytes to a vector
 abbrev pub Reads : ℕ → List ℕ → Result Frame SessionFault → Type 0

@@ -3,3 +3,4 @@ pub mod Faults
 pub mod Table
 pub mod Frames
 pub mod Answers
+pub mod Replies

@@ -8,6 +8,7 @@
 -- reading_lines            reading a frame
 -- column_lines, ..         a column, a row, a combination
 -- frame_lines              a frame in memories that fit
+-- length_lines            the lengths of the inverse memory and of working memory
 -- Lent, lent, memory_lines the sizes, and the lengths of the lent memories
 -- answering_lines, closing_lines, publishing_lines    the three calls
 use Rattle.std.specs.Prelude.{ℕ, ◌+◌, ◌*◌, Bool, cond, not, ◌&&◌, ◌||◌, List, [], ◌∷◌, ◌++◌, length, drop, Some, None, Ok, Err, Option, Result, ◌==◌, nat_lt, slice_index}
@@ -148,15 +149,21 @@ pub record Lent : Type 0 where
 abbrev pub lent : ℕ → ℕ → ℕ → Lent
 lent i w r = record { inverse = i; working = w; reply = r }
 
+-- the lengths of the inverse memory and of working memory, for n rows of n bits
+abbrev pub length_lines : ℕ → ℕ → ℕ → List Line
+length_lines n inverse working =
+    line (not (inverse == (n * bytes_for n))) (Inverse inverse)
+    ∷ line (nat_lt working (2 * bytes_for n)) (Working working)
+    ∷ []
+
 -- sizes and lengths; own: the session's set; set: the key's; order: the blinding's size
 abbrev pub memory_lines : Sizes → Sizes → ℕ → Lent → List Line
 memory_lines own set order m =
     line (differ own set) Set
     ∷ line (not (order == set.rows)) Blinding
-    ∷ line (not (m.inverse == (set.rows * bytes_for set.rows))) (Inverse m.inverse)
-    ∷ line (nat_lt m.working (2 * bytes_for set.rows)) (Working m.working)
-    ∷ line (nat_lt m.reply (bytes_for set.rows + 3)) (Reply m.reply)
-    ∷ []
+    ∷ (length_lines set.rows m.inverse m.working
+    ++ line (nat_lt m.reply (bytes_for set.rows + 3)) (Reply m.reply)
+    ∷ [])
 
 -- answering the frame f
 abbrev pub answering_lines : Sizes → Sizes → ℕ → List (List ℕ) → ℕ → ℕ → Lent → List ℕ → List Line
@@ -170,9 +177,8 @@ closing_lines phase taken = line (phase == 0) (Receiving taken) ∷ line (phase 
 abbrev pub publishing_lines : Sizes → Sizes → ℕ → ℕ → ℕ → ℕ → ℕ → ℕ → List Line
 publishing_lines own set inverse working sent size limit held =
     line (differ own set) Set
-    ∷ line (not (inverse == (set.rows * bytes_for set.rows))) (Inverse inverse)
-    ∷ line (nat_lt working (2 * bytes_for set.rows)) (Working working)
-    ∷ line (sent == set.rest) (Done set.rest)
+    ∷ (length_lines set.rows inverse working
+    ++ line (sent == set.rest) (Done set.rest)
     ∷ line (not (size == set.rows)) (Size size)
     ∷ line (not (nat_lt held limit)) (Sink (Full limit))
-    ∷ []
+    ∷ [])

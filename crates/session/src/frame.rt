@@ -1,8 +1,8 @@
 // Frames: one byte of kind, and a body whose length the kind fixes.
-ghost use Rattle.std.specs.Prelude.{◌≡◌, ◌+◌, ◌*◌, ◌<◌, ◌≤◌, length, drop};
+ghost use Rattle.std.specs.Prelude.{◌≡◌};
 ghost use Rattle.bits.specs.Bits.{bytes_for};
-ghost use Rattle.session.specs.Table.{kind, index, frame_length};
-ghost use Rattle.session.specs.Frames.{Reads};
+ghost use Rattle.session.specs.Table.{frame_length};
+ghost use Rattle.session.specs.Frames.{Reads, Kinded, word_of};
 
 use crate::fault::SessionFault;
 use bits::bytes_for;
@@ -16,57 +16,67 @@ pub enum Frame<'a> {
     Status,
 }
 
+// The kinds of frames. Their numbers stand in `try_from` alone.
+#[derive(Clone, Copy)]
+enum Kind {
+    Column,
+    Row,
+    Combination,
+    Status,
+}
+
+impl TryFrom<u8> for Kind {
+    type Error = SessionFault;
+
+    ghost try_from_gives = { Kinded };
+
+    fn try_from(number: u8) -> Result<Kind, SessionFault> {
+        match number {
+            0x11 => Ok(Kind::Column),
+            0x12 => Ok(Kind::Row),
+            0x13 => Ok(Kind::Combination),
+            0x14 => Ok(Kind::Status),
+            _ => Err(SessionFault::Kind(number)),
+        }
+    }
+}
+
 // The length of a whole frame of a kind, for vectors of n bits; 1 where the kind is unknown.
 pub fn length_for(kind: u8, n: usize) -> usize
     ensures { result ≡ frame_length (bytes_for n) kind }
 {
-    match kind {
-        0x11 => 3,
-        0x12 => bytes_for(n) + 3,
-        0x13 => bytes_for(n) + 1,
-        _ => 1,
+    match Kind::try_from(kind) {
+        Ok(Kind::Column) => 3,
+        Ok(Kind::Row) => bytes_for(n) + 3,
+        Ok(Kind::Combination) => bytes_for(n) + 1,
+        Ok(Kind::Status) | Err(_) => 1,
     }
 }
 
-fn kind_of(frame: &[u8]) -> u8
-    ensures { result ≡ kind frame.now }
+fn index_of(low: u8, high: u8) -> usize
+    ensures { result ≡ word_of low high }
 {
-    if frame.len() == 0 { 0 } else { frame[0] }
+    u16::from_le_bytes([low, high]) as usize
 }
 
-fn index_of(frame: &[u8]) -> usize
-    requires { 3 ≤ length frame.now }
-    ensures { result ≡ index frame.now }
-{
-    frame[1] as usize + 256 * (frame[2] as usize)
-}
-
-fn tail(frame: &[u8], from: usize) -> &[u8]
-    requires { from ≤ length frame.now }
-    ensures { result.now ≡ drop from frame.now }
-{
-    frame.split_at(from).1
-}
-
-// Reads a frame, for vectors of n bits.
+// Reads a frame, for vectors of n bits. An empty one is of the unknown kind 0.
 pub fn read<'a>(frame: &'a [u8], n: usize) -> Result<Frame<'a>, SessionFault>
     ensures { Reads (bytes_for n) frame.now result }
 {
+    let [number, rest @ ..] = frame else {
+        return Err(SessionFault::Kind(0));
+    };
     let l = bytes_for(n);
-    let kind = kind_of(frame);
-    match kind {
-        0x11 if frame.len() == 3 => Ok(Frame::Column {
-            index: index_of(frame),
+    match (Kind::try_from(*number)?, rest) {
+        (Kind::Column, [low, high]) => Ok(Frame::Column {
+            index: index_of(*low, *high),
         }),
-        0x12 if frame.len() == l + 3 => Ok(Frame::Row {
-            index: index_of(frame),
-            body: tail(frame, 3),
+        (Kind::Row, [low, high, body @ ..]) if body.len() == l => Ok(Frame::Row {
+            index: index_of(*low, *high),
+            body,
         }),
-        0x13 if frame.len() == l + 1 => Ok(Frame::Combination {
-            body: tail(frame, 1),
-        }),
-        0x14 if frame.len() == 1 => Ok(Frame::Status),
-        0x11..=0x14 => Err(SessionFault::Length(frame.len())),
-        _ => Err(SessionFault::Kind(kind)),
+        (Kind::Combination, body) if body.len() == l => Ok(Frame::Combination { body }),
+        (Kind::Status, []) => Ok(Frame::Status),
+        _ => Err(SessionFault::Length(frame.len())),
     }
 }

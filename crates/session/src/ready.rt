@@ -1,36 +1,36 @@
 // The ready session: publishing.
-ghost use Rattle.std.specs.Prelude.{◌≡◌, ◌+◌, ◌*◌, ◌<◌, length, Ok, Err};
+ghost use Rattle.std.specs.Prelude.{◌≡◌, ◌*◌, ◌<◌, ◌≤◌, length, MatchResult};
 ghost use Rattle.bits.specs.Bits.{bytes_for};
 ghost use Rattle.guard.specs.Zero.{AllZero};
 ghost use Rattle.session.specs.Answers.{Published, public_column, fault_in};
 
 use super::fault::SessionFault;
 use super::state::Ready;
-use bits::bytes_for;
+use super::{Product, check_lengths};
 use guard::Wiped;
 use key::Key;
-use operator::Operator;
 use operator::stored::StoredMatrix;
 use sink::Sink;
 
-// Public column c into b, by way of its column of the check matrix in a.
-fn make_column<K: Key>(
-    key: &K,
-    inverse: &[u8],
+// Public column c.
+fn make_column<'x, K: Key>(
+    key: &'x K,
+    inverse: &'x [u8],
     c: usize,
-    a: &mut [u8],
-    b: &mut [u8],
-) -> Result<(), SessionFault>
+    working: &'x mut [u8],
+) -> Result<&'x [u8], SessionFault>
     requires at { c < (K.sizes key.now).rest }
     requires inverse { length inverse.now ≡ (K.sizes key.now).rows * bytes_for (K.sizes key.now).rows }
-    requires room { (length a.old ≡ bytes_for (K.sizes key.now).rows) × (length b.old ≡ bytes_for (K.sizes key.now).rows) }
-    ensures result { result ≡ Ok tt }
-    ensures written { b.new ≡ public_column (K.sizes key.now).rows (K.checks key.now) inverse.now c }
+    requires room { 2 * bytes_for (K.sizes key.now).rows ≤ length working.old }
+    ensures { let n = (K.sizes key.now).rows in
+        MatchResult result (λ v. (v.now ≡ public_column n (K.checks key.now) inverse.now c) × (length v.now ≡ bytes_for n)) (λ e. ⊥) }
 {
     let n = key.set().rows;
-    key.column(n + c, a)?;
-    StoredMatrix::new(n, inverse).column_action(a, b)?;
-    Ok(())
+    let stored = StoredMatrix::new(n, inverse);
+    let mut product = Product::new(&stored, key, working);
+    product.column(n + c)?;
+    let Product { b, .. } = product;
+    Ok(b)
 }
 
 impl Ready {
@@ -48,29 +48,20 @@ impl Ready {
     {
         let guard = Wiped { bytes: working };
         let set = key.set();
-        if self.set.rows != set.rows || self.set.rest != set.rest {
+        if self.set != set {
             return Err(SessionFault::Set);
         }
-        let n = set.rows;
-        let l = bytes_for(n);
-        if inverse.len() != n * l {
-            return Err(SessionFault::Inverse(inverse.len()));
-        }
-        if guard.bytes.len() < 2 * l {
-            return Err(SessionFault::Working(guard.bytes.len()));
-        }
+        check_lengths(set.rows, inverse.len(), guard.bytes.len())?;
         let c = self.sent;
         if c == set.rest {
             return Err(SessionFault::Done(c));
         }
         let size = sink.size();
-        if size != n {
+        if size != set.rows {
             return Err(SessionFault::Size(size));
         }
-        let (a, rest) = guard.bytes.split_at_mut(l);
-        let (b, _) = rest.split_at_mut(l);
-        make_column(key, inverse, c, a, b)?;
-        sink.take(b)?;
+        let column = make_column(key, inverse, c, guard.bytes)?;
+        sink.take(column)?;
         self.sent = c + 1;
         Ok(())
     }

@@ -13,7 +13,7 @@ pub enum Phase {
 }
 
 impl Phase {
-    // The number that replies and refusals tell.
+    // The number that replies and refusals tell: of the protocol, so no cast from the order of the phases.
     pub fn number(self) -> u8
         ensures { result ≡ phase_number self }
     {
@@ -50,7 +50,8 @@ pub struct StillOpen {
     pub fault: SessionFault,
 }
 
-// What a frame is answered: the length of the reply, and the refusal if there is one.
+// What a frame is answered: the length of the reply, and the refusal if there is one. A length and no
+// slice, which would keep the caller's memory lent.
 #[derive(Clone, Copy)]
 pub struct Answer {
     pub length: usize,

@@ -1,93 +1,83 @@
 -- A column written into and read from a column book. Assumes nothing.
-use Rattle.std.proofs.Common.{◌≡◌, ℕ, ◌+◌, ◌*◌, ◌/◌, ◌%◌, ◌<◌, ◌≤◌, Bool, true, ◌⊎◌, List, [], length, get_or, drop, set, Ok, sym, ap, ◌∙◌, inl, inr, mul-le-mul_right, suc-mul, arith}
-use Rattle.std.proofs.lemmas.List.{get_or-drop, get_or_past}
-use Rattle.std.proofs.lemmas.Bool.{cases_eq, cases_lt}
-use Rattle.bits.specs.Bits.{bytes_for, bit_of, bits_of, byte_at, pad_bit, of_rows, pack}
-use Rattle.bits.specs.Columns.{columns_of, packed_rows, entry_of}
-use Rattle.bits.proofs.Packs.{pack-cong, pack-from-bytes, bits-pack, bits-pack-in, get_or-pack, bits-lt, pad-in, pad-out}
-use Rattle.bits.proofs.Columns.{get_or-columns, length-columns}
-use Rattle.sink.specs.Store.{Taking, book_store, book_matrix}
-use Rattle.sink.proofs.Stores.{takes}
-use Rattle.sink.proofs.Rows.{byte-here, byte-other, rows-bytes, of_rows-lt, bits_none}
+use Rattle.std.proofs.Common.{◌≡◌, ℕ, ◌+◌, ◌-◌, ◌*◌, ◌/◌, ◌%◌, ◌<◌, ◌≤◌, true, cond, eqb, List, ◌++◌, length, get_or, take, drop, sym, ap, ◌∙◌, inl, inr, mul-le-mul_right, suc-mul, arith}
+use borrow.Rule.Slice.PartMut.{put_mid, post_of}
+use lib.ListN.{length-append, length-drop}
+use Rattle.std.proofs.lemmas.List.{get_or-take, get_or-drop, get_or_append_left, get_or-append_right, length-take-le}
+use Rattle.std.proofs.lemmas.Bool.{cases_eq, cases_lt, eq-eqb, ne_eqb, cond-true, cond-false}
+use Rattle.bits.specs.Bits.{bytes_for, bit_of, bits_of, of_rows, pack}
+use Rattle.bits.proofs.Packs.{pack-cong, bits-pack, length-pack}
+use Rattle.sink.specs.Layout.{Written}
+use Rattle.sink.specs.Store.{book_matrix}
 
--- column k stands at k * w
-pub book-bits : (n k : ℕ) (xs : List ℕ) (i : ℕ) → book_matrix n xs i k ≡ bits_of (drop (k * bytes_for n) xs) i
+-- a byte after a write to a part
+put-below : (at w i : ℕ) (xs ys : List ℕ) → i < at → at ≤ length xs → get_or (put_mid at w xs ys) i 0 ≡ get_or xs i 0
+put-below at w i xs ys h l =
+    let e = length-take-le at xs l in
+    get_or_append_left (take at xs) (ys ++ post_of at w xs) 0 i (omega arith) ∙ get_or-take at xs i 0 h
+
+put-past : (at w i : ℕ) (xs ys : List ℕ) → at ≤ i → at ≤ length xs → get_or (put_mid at w xs ys) i 0 ≡ get_or (ys ++ post_of at w xs) (i - at) 0
+put-past at w i xs ys h l = get_or-append_right (take at xs) (ys ++ post_of at w xs) at i 0 (length-take-le at xs l) h
+
+put-within : (at w i : ℕ) (xs ys : List ℕ) → i < length ys → at ≤ length xs → get_or (put_mid at w xs ys) (at + i) 0 ≡ get_or ys i 0
+put-within at w i xs ys h l =
+    put-past at w (at + i) xs ys (omega arith) l
+    ∙ ap (λ j. get_or (ys ++ post_of at w xs) j 0) (let e : at + i - at ≡ i = omega arith in e)
+    ∙ get_or_append_left ys (post_of at w xs) 0 i h
+
+put-above : (at w i : ℕ) (xs ys : List ℕ) → at + w ≤ i → length ys ≡ w → at ≤ length xs → get_or (put_mid at w xs ys) i 0 ≡ get_or xs i 0
+put-above at w i xs ys h e l =
+    put-past at w i xs ys (omega arith) l
+    ∙ get_or-append_right ys (post_of at w xs) w (i - at) 0 e (omega arith)
+    ∙ get_or-drop w (drop at xs) (i - at - w) 0
+    ∙ get_or-drop at xs (w + (i - at - w)) 0
+    ∙ ap (λ j. get_or xs j 0) (let e : at + (w + (i - at - w)) ≡ i = omega arith in e)
+
+-- column k written
+pub book-written : (n l k : ℕ) (v xs : List ℕ) → k < l → l * bytes_for n ≤ length xs
+    → Written true n l k v xs (put_mid (k * bytes_for n) (bytes_for n) xs (pack n (bits_of v)))
 unfolding of_rows bits_of
-book-bits n k xs i = ap (λ x. bit_of x (i % 8)) (sym (get_or-drop (k * bytes_for n) xs (i / 8) 0))
+book-written n l k v xs hk room =
+    let w = bytes_for n in
+    let ys = pack n (bits_of v) in
+    let long : length ys ≡ w = length-pack n (bits_of v) in
+    let fits : k * w + w ≤ length xs = omega (arith, suc-mul k w, mul-le-mul_right w hk) in
+    record {
+      long =
+          omega (
+            arith,
+            length-append (take (k * w) xs) (ys ++ post_of (k * w) w xs),
+            length-append ys (post_of (k * w) w xs),
+            length-take-le (k * w) xs (omega arith),
+            length-drop w (drop (k * w) xs),
+            length-drop (k * w) xs,
+          );
+      bits = λ a b la lb. elim (cases_eq a k) [
+        | inl e ↦
+            ap (λ x. bit_of (get_or (put_mid (k * w) w xs ys) (x * w + b / 8) 0) (b % 8)) e
+            ∙ ap (λ x. bit_of x (b % 8)) (put-within (k * w) w (b / 8) xs ys (omega arith) (omega arith))
+            ∙ bits-pack n (bits_of v) b
+            ∙ sym (cond-true (eqb a k) _ _ (eq-eqb a k e))
+        | inr ne ↦
+            ap (λ x. bit_of x (b % 8)) (elim (cases_lt a k) [
+              | inl h ↦ put-below (k * w) w (a * w + b / 8) xs ys (omega (arith, suc-mul a w, mul-le-mul_right w h)) (omega arith)
+              | inr h ↦
+                  let past : k < a = omega arith in
+                  put-above (k * w) w (a * w + b / 8) xs ys (omega (arith, suc-mul k w, mul-le-mul_right w past)) long (omega arith)
+            ])
+            ∙ sym (cond-false (eqb a k) _ _ (ne_eqb a k ne))
+      ];
+    }
 
-pub book-column : (n k : ℕ) (xs ys : List ℕ) → length ys ≡ bytes_for n
-    → ((b : ℕ) → b < bytes_for n → get_or ys b 0 ≡ byte_at n (bits_of (drop (k * bytes_for n) xs)) b) → ys ≡ pack n (λ i. book_matrix n xs i k)
-book-column n k xs ys e h =
-    pack-from-bytes n (bits_of (drop (k * bytes_for n) xs)) ys e h ∙ pack-cong n _ _ (λ i l. sym (book-bits n k xs i))
-
--- what taking wrote at column k
-pub book-new : (n k : ℕ) (v ys : List ℕ) → ((b : ℕ) → b < bytes_for n → get_or ys (k * bytes_for n + b) 0 ≡ byte_at n (bits_of v) b)
-    → (i : ℕ) → i < n → book_matrix n ys i k ≡ bits_of v i
+-- column k read
+pub book-column : (n k : ℕ) (xs : List ℕ) → pack n (bits_of (take (bytes_for n) (drop (k * bytes_for n) xs))) ≡ pack n (λ i. book_matrix n xs i k)
 unfolding of_rows bits_of
-book-new n k v ys h i l =
-    ap (λ x. bit_of x (i % 8)) (h (i / 8) (omega arith) ∙ sym (get_or-pack n (bits_of v) (i / 8) (omega arith)))
-    ∙ bits-pack-in n (bits_of v) i l (bits-lt v i)
+book-column n k xs =
+    pack-cong n _ _ (λ i h.
+    ap (λ x. bit_of x (i % 8))
+    (get_or-take (bytes_for n) (drop (k * bytes_for n) xs) (i / 8) 0 (omega arith) ∙ get_or-drop (k * bytes_for n) xs (i / 8) 0))
 
--- and what it left
-pub book-old : (n k : ℕ) (xs ys : List ℕ) → ((p : ℕ) → p < k * bytes_for n → get_or ys p 0 ≡ get_or xs p 0)
-    → (i j : ℕ) → i < n → j < k → book_matrix n ys i j ≡ book_matrix n xs i j
-unfolding of_rows
-book-old n k xs ys h i j li lj =
-    ap (λ x. bit_of x (i % 8)) (h (j * bytes_for n + i / 8) (omega (arith, suc-mul j (bytes_for n), mul-le-mul_right (bytes_for n) lj)))
-
-pub book-takes : (n l k n' l' k' : ℕ) (wh wh' : Bool) (xs ys v : List ℕ) → n' ≡ n → l' ≡ l → k' ≡ k + 1 → wh' ≡ wh → wh ≡ true → length v ≡ bytes_for n → k < l
-    → ((b : ℕ) → b < bytes_for n → get_or ys (k * bytes_for n + b) 0 ≡ byte_at n (bits_of v) b) → ((p : ℕ) → p < k * bytes_for n → get_or ys p 0 ≡ get_or xs p 0)
-    → Taking (book_store n l k wh xs) (book_store n' l' k' wh' ys) v (Ok tt)
-book-takes n l k n' l' k' wh wh' xs ys v en el ek ew made hv hk new old =
-    takes n l k n' l' k' wh wh' xs ys (book_matrix n xs) (λ m _. book_matrix m ys) v en el ek ew made hv hk (book-old n k xs ys old) (book-new n k v ys new)
-
--- bit j of a vector, in its byte
-byte-bit : (n : ℕ) (f : ℕ → ℕ) (j : ℕ) → j / 8 < bytes_for n → bit_of (byte_at n f (j / 8)) (j % 8) ≡ pad_bit n f j
-unfolding bits_of
-byte-bit n f j l = ap (λ x. bit_of x (j % 8)) (sym (get_or-pack n f (j / 8) l)) ∙ bits-pack n f j
-
--- byte q of column t written: pad bits and what is not yet taken stay 0
-pub book-blank : (n t q y : ℕ) (v ys : List ℕ) → q < bytes_for n → t * bytes_for n + q < length ys → y ≡ byte_at n (bits_of v) q
-    → (a j : ℕ) → j < 8 * bytes_for n → (t + 1 ≤ a) ⊎ (n ≤ j) → of_rows (bytes_for n) ys a j ≡ 0
-    → of_rows (bytes_for n) (set ys (t * bytes_for n + q) y) a j ≡ 0
-book-blank n t q y v ys lq room is a j lj out was =
-    let w = bytes_for n in
-    elim (cases_eq a t) [
-      | inl e ↦
-          elim (cases_eq (j / 8) q) [
-            | inl p ↦
-                ap (λ x. of_rows w (set ys (t * w + q) y) x j) e ∙ byte-here w t q y ys room j p
-                ∙ ap (λ x. bit_of x (j % 8)) (is ∙ ap (byte_at n (bits_of v)) (sym p)) ∙ byte-bit n (bits_of v) j (omega arith)
-                ∙ pad-out n (bits_of v) j (elim out [ inl h ↦ absurd (omega arith) | inr h ↦ h ])
-            | inr ne ↦ byte-other w t q y ys a j lq lj (λ _ p. ne p) ∙ was
-          ]
-      | inr ne ↦ byte-other w t q y ys a j lq lj (λ e _. ne e) ∙ was
-    ]
-
--- the columns tell each bit of the memory
-book-entry : (n k : ℕ) (xs : List ℕ) (a j : ℕ) → ((k ≤ a) ⊎ (n ≤ j) → of_rows (bytes_for n) xs a j ≡ 0)
-    → pad_bit n (λ i. entry_of (columns_of n k (book_matrix n xs)) i a) j ≡ of_rows (bytes_for n) xs a j
-book-entry n k xs a j blank =
-    let w = bytes_for n in
-    let cs : List (List ℕ) = columns_of n k (book_matrix n xs) in
-    elim (cases_lt j n) [
-      | inl lj ↦
-          elim (cases_lt a k) [
-            | inl h ↦
-                let e : bits_of (get_or cs a []) j ≡ of_rows w xs a j = ap (λ c. bits_of c j) (get_or-columns n k (book_matrix n xs) a h) ∙ bits-pack-in n (of_rows w xs a) j lj (of_rows-lt w xs a j) in
-                let s = of_rows-lt w xs a j in
-                pad-in n (bits_of (get_or cs a [])) j lj ∙ (let m : bits_of (get_or cs a []) j % 2 ≡ of_rows w xs a j = omega arith in m)
-            | inr h ↦
-                pad-in n (bits_of (get_or cs a [])) j lj
-                ∙ ap (λ c. bits_of c j % 2) (get_or_past cs a [] (let m = length-columns n k (book_matrix n xs) in omega arith))
-                ∙ ap (λ x. x % 2) (bits_none j) ∙ sym (blank (inl h))
-          ]
-      | inr lj ↦ pad-out n (bits_of (get_or cs a [])) j lj ∙ sym (blank (inr lj))
-    ]
-
--- the bytes of a book that was made and holds k columns
-pub book-bytes : (n l k : ℕ) (xs : List ℕ) → length xs ≡ l * bytes_for n → ((p : ℕ) → p < length xs → get_or xs p 0 < 256)
-    → ((a j : ℕ) → a < l → j < 8 * bytes_for n → (k ≤ a) ⊎ (n ≤ j) → of_rows (bytes_for n) xs a j ≡ 0)
-    → xs ≡ packed_rows l n (λ j i. entry_of (columns_of n k (book_matrix n xs)) i j)
-book-bytes n l k xs len small blank =
-    rows-bytes l n xs (λ j i. entry_of (columns_of n k (book_matrix n xs)) i j) len small (λ a j la lj. book-entry n k xs a j (blank a j la lj))
+-- a vector copied, its pad bits cleared
+pub cleaned : (n : ℕ) (v copy ys : List ℕ) → copy ≡ v → length v ≡ bytes_for n → ys ≡ cond (eqb (length copy) (bytes_for n)) (pack n (bits_of copy)) copy
+    → ys ≡ pack n (bits_of v)
+cleaned n v copy ys same long is =
+    is ∙ cond-true (eqb (length copy) (bytes_for n)) _ _ (eq-eqb (length copy) (bytes_for n) (ap length same ∙ long)) ∙ ap (λ xs. pack n (bits_of xs)) same

@@ -1,4 +1,5 @@
 pub mod Stores
 pub mod Rows
+pub mod Layouts
 pub mod Books
 pub mod Keys

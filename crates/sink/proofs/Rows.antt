@@ -1,5 +1,5 @@
 -- Memory of rows, w bytes each: one byte changed, and the bytes told by the bits. Assumes nothing.
-use Rattle.std.proofs.Common.{◌≡◌, ℕ, zero, suc, ◌+◌, ◌*◌, ◌/◌, ◌%◌, ◌<◌, ◌≤◌, cond, ltb, ◌≢◌, List, [], length, get_or, set, replicate, sym, ap, ◌∙◌, ap₂, inl, inr, mul-le-mul_right, mod-eq_of_lt, suc-mul, mul-zero, arith, get_or-set_other, get_or-set_same}
+use Rattle.std.proofs.Common.{◌≡◌, ℕ, zero, suc, ◌+◌, ◌*◌, ◌/◌, ◌%◌, ◌<◌, cond, ltb, ◌≢◌, List, [], length, get_or, set, replicate, sym, ap, ◌∙◌, ap₂, inl, inr, mod-eq_of_lt, mul-zero, arith, get_or-set_other, get_or-set_same}
 use lib.ListN.{get_or-replicate, length-replicate}
 use Rattle.std.proofs.lemmas.List.{get_or_past}
 use Rattle.std.proofs.lemmas.List.FromFn.{fill_by_all}
@@ -9,10 +9,6 @@ use Rattle.matrix.specs.Matrix.{Mat}
 use Rattle.bits.specs.Bits.{bytes_for, bit_of, bits_of, byte_at, pad_bit, of_rows}
 use Rattle.bits.specs.Columns.{packed_rows}
 use Rattle.bits.proofs.Packs.{bit-zero, bit-lt, low-mod, low-cong}
-
--- byte q of row i lies in the memory, where rows and bytes are told by equations
-pub byte_fits : (i q n w n' w' m : ℕ) → i < n → q < w → n' * w' ≤ m → n' ≡ n → w' ≡ w → i * w + q < m
-byte_fits i q n w n' w' m li lq room en ew = omega (arith, suc-mul i w, mul-le-mul_right w li, room, ap₂ ◌*◌ en ew)
 
 -- byte q of row i changed to y
 module _ (w i q y : ℕ) (xs : List ℕ) where

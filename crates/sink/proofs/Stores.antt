@@ -1,13 +1,13 @@
 -- Taking and reading, over any matrix that a memory holds. Assumes nothing.
-use Rattle.std.proofs.Common.{◌≡◌, ℕ, ◌+◌, ◌<◌, ◌≤◌, Bool, true, false, cond, eqb, ltb, List, [], length, is_ok, Ok, Err, Result, sym, refl, ap, ◌∙◌, subst, arith}
-use Rattle.std.proofs.lemmas.Bool.{eq-eqb, lt-ltb, le-ltb, cond-true, cond-false}
+use Rattle.std.proofs.Common.{◌≡◌, ℕ, ◌+◌, ◌<◌, ◌≤◌, Bool, true, false, cond, eqb, ltb, List, [], length, is_ok, Ok, Err, Result, sym, refl, ap, ◌∙◌, arith}
+use Rattle.std.proofs.lemmas.Bool.{eq-eqb, lt-ltb, le-ltb, cond-true}
 use Rattle.matrix.specs.Matrix.{Mat}
 use Rattle.bits.specs.Bits.{bytes_for, bits_of, pack}
 use Rattle.bits.specs.Columns.{columns_of}
 use Rattle.bits.proofs.Columns.{length-columns, get_or-columns, columns-more}
 use Rattle.sink.specs.declared.fault.SinkFault.TheVariants.{Full, Absent}
 use Rattle.sink.specs.declared.fault.MakeFault.{MakeFault}
-use Rattle.sink.specs.Store.{Store, Taking, Reading, store_of, refused_store, new_store}
+use Rattle.sink.specs.Store.{Taking, Reading, store_of, refused_store, new_store}
 
 -- what takes a column was made
 pub open-is-made : (wh : Bool) (k l : ℕ) → (wh ≡ false → k ≡ l) → k < l → wh ≡ true
@@ -26,28 +26,22 @@ made-is-new r n l xs ys e ok =
     ∙ sym (cond-true (is_ok r) _ (refused_store xs) ok)
 
 -- a sink that is not made is the refused one
-pub refused-is : (r : Result (Unit {0}) MakeFault) (xs : List ℕ) (e : Mat) (made : Store) → is_ok r ≡ false → store_of 1 0 0 false xs e ≡ cond (is_ok r) made (refused_store xs)
-refused-is r xs e made no-sink =
-    ap (λ cs. record { size = 1; limit = 0; columns = cs; whole = false; other = xs }) (columns-none 1 e)
-    ∙ sym (cond-false (is_ok r) made (refused_store xs) no-sink)
+pub refused-is : (xs : List ℕ) (e : Mat) → store_of 1 0 0 false xs e ≡ refused_store xs
+refused-is xs e = ap (λ cs. record { size = 1; limit = 0; columns = cs; whole = false; other = xs }) (columns-none 1 e)
 
--- one column more; the new numbers are told by equations
-pub takes : (n l k n' l' k' : ℕ) (wh wh' : Bool) (xs ys : List ℕ) (e : Mat) (e' : ℕ → ℕ → Mat) (v : List ℕ)
-    → n' ≡ n → l' ≡ l → k' ≡ k + 1 → wh' ≡ wh → wh ≡ true → length v ≡ bytes_for n → k < l
-    → ((i j : ℕ) → i < n → j < k → e' n l i j ≡ e i j) → ((i : ℕ) → i < n → e' n l i k ≡ bits_of v i)
-    → Taking (store_of n l k wh xs e) (store_of n' l' k' wh' ys (e' n' l')) v (Ok tt)
-takes n l k n' l' k' wh wh' xs ys e e' v en el ek ew made hv hk same new =
+-- one column more
+pub takes : (n l k : ℕ) (wh : Bool) (xs ys : List ℕ) (e e' : Mat) (v : List ℕ) → wh ≡ true → length v ≡ bytes_for n → k < l
+    → ((i j : ℕ) → i < n → j < k → e' i j ≡ e i j) → ((i : ℕ) → i < n → e' i k ≡ bits_of v i)
+    → Taking (store_of n l k wh xs e) (store_of n l (k + 1) wh ys e') v (Ok tt)
+takes n l k wh xs ys e e' v made hv hk same new =
     let p : eqb (length v) (bytes_for n) ≡ true = eq-eqb (length v) (bytes_for n) hv in
     let m = length-columns n k e in
     let q : ltb (length (columns_of n k e)) l ≡ true = lt-ltb (length (columns_of n k e)) l (omega arith) in
     let none : cond wh [] ys ≡ cond wh [] xs = ap (λ b. cond b [] ys) made ∙ ap (λ b. cond b [] xs) (sym made) in
-    let after : store_of n l (k + 1) wh ys (e' n l) ≡ store_of n' l' k' wh' ys (e' n' l') =
-    λ t. store_of (sym en t) (sym el t) (sym ek t) (sym ew t) ys (e' (sym en t) (sym el t)) in
-    subst (λ a. Taking (store_of n l k wh xs e) a v (Ok tt)) after
-    (record {
+    record {
       result = rw (p, q) refl;
-      holds = λ t. record { size = n; limit = l; columns = columns-more n k e (e' n l) v same new t; whole = wh; other = none t };
-    })
+      holds = λ t. record { size = n; limit = l; columns = columns-more n k e e' v same new t; whole = wh; other = none t };
+    }
 
 pub full : (n l k : ℕ) (wh : Bool) (xs : List ℕ) (e : Mat) (v : List ℕ) → length v ≡ bytes_for n → l ≤ k
     → Taking (store_of n l k wh xs e) (store_of n l k wh xs e) v (Err (Full l))
@@ -72,8 +66,3 @@ absent n l k wh xs e j out room hj =
     let m = length-columns n k e in
     let q : ltb j (length (columns_of n k e)) ≡ false = le-ltb j (length (columns_of n k e)) (omega arith) in
     record { result = rw (p, q) refl; written = refl }
-
--- a memory that is told by its columns where it was made
-pub told-by-store : (wh : Bool) (xs ys : List ℕ) → (wh ≡ true → xs ≡ ys) → xs ≡ cond wh ys (cond wh [] xs)
-told-by-store true xs ys h = h refl
-told-by-store false xs ys h = refl

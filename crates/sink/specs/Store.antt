@@ -8,13 +8,17 @@
 -- book_matrix    the matrix in a column book's memory
 -- key_matrix     the matrix in a packed key's memory
 -- store_of       the store of a memory that holds a matrix
+-- matrix_in      the matrix in the memory of either sink
+-- store_in       what either sink holds
 -- book_store     what a column book holds
 -- key_store      what a packed key holds
 -- book_bytes     a column book's memory, told by its store
 -- key_bytes      a packed key's memory, told by its store
+-- bytes_in       either sink's memory, told by its store
 -- make_answer    what making a sink is refused by
 -- book_check     the same of a column book
 -- key_check      the same of a packed key
+-- check_in       the same of either sink
 -- refused_store  a sink of refused values
 -- new_store      a new sink
 -- open_store     a packed key that was received
@@ -69,13 +73,21 @@ key_matrix l xs = of_rows (bytes_for l) xs
 abbrev pub store_of : ℕ → ℕ → ℕ → Bool → List ℕ → Mat → Store
 store_of n l k wh xs e = record { size = n; limit = l; columns = columns_of n k e; whole = wh; other = cond wh [] xs }
 
--- what a column book of k columns holds in the memory xs
-abbrev pub book_store : ℕ → ℕ → ℕ → Bool → List ℕ → Store
-book_store n l k wh xs = store_of n l k wh xs (book_matrix n xs)
+-- the matrix in a memory whose rows are columns (c), as a column book's, or else in a packed key's
+abbrev pub matrix_in : Bool → ℕ → ℕ → List ℕ → Mat
+matrix_in c n l xs = cond c (book_matrix n xs) (key_matrix l xs)
 
--- what a packed key of k columns holds in the memory xs
+-- what a memory of k columns holds
+abbrev pub store_in : Bool → ℕ → ℕ → ℕ → Bool → List ℕ → Store
+store_in c n l k wh xs = store_of n l k wh xs (matrix_in c n l xs)
+
+-- a column book's memory
+abbrev pub book_store : ℕ → ℕ → ℕ → Bool → List ℕ → Store
+book_store = store_in true
+
+-- a packed key's memory
 abbrev pub key_store : ℕ → ℕ → ℕ → Bool → List ℕ → Store
-key_store n l k wh xs = store_of n l k wh xs (key_matrix l xs)
+key_store = store_in false
 
 -- a column book's memory: column after column, pad bits and what is not yet taken 0
 abbrev pub book_bytes : Store → List ℕ
@@ -84,6 +96,10 @@ book_bytes s = cond s.whole (packed_rows s.limit s.size (λ j i. entry_of s.colu
 -- a packed key's memory: row i is the bits i of the columns, pad bits and what is not yet taken 0
 abbrev pub key_bytes : Store → List ℕ
 key_bytes s = cond s.whole (packed_rows s.size s.limit (entry_of s.columns)) s.other
+
+-- either of them
+abbrev pub bytes_in : Bool → Store → List ℕ
+bytes_in c s = cond c (book_bytes s) (key_bytes s)
 
 -- what a sink of size n and limit l is refused by, over memory of `given` bytes where `asked` are wanted
 abbrev pub make_answer : ℕ → ℕ → ℕ → ℕ → Result (Unit {0}) MakeFault
@@ -97,6 +113,10 @@ book_check n l m = make_answer n l (l * bytes_for n) m
 -- a packed key over m bytes
 abbrev pub key_check : ℕ → ℕ → ℕ → Result (Unit {0}) MakeFault
 key_check n l m = make_answer n l (n * bytes_for l) m
+
+-- either of them
+abbrev pub check_in : Bool → ℕ → ℕ → ℕ → Result (Unit {0}) MakeFault
+check_in c n l m = cond c (book_check n l m) (key_check n l m)
 
 -- a sink of refused values, over the memory as it is
 abbrev pub refused_store : List ℕ → Store

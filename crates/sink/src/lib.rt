@@ -3,11 +3,12 @@
 // reading do to it, refusals included. Who sends the columns is left to others.
 #![tactic(auto)]
 
-ghost use Rattle.std.specs.Prelude.{◌≡◌, length, replicate};
+ghost use Rattle.std.specs.Prelude.{◌≡◌};
 ghost use Rattle.sink.specs.Faults.{told_sink, told_make};
-ghost use Rattle.sink.specs.Store.{Store, Taking, Reading, make_answer};
+ghost use Rattle.sink.specs.Store.{Store, Taking, Reading};
 
 pub mod book;
+mod columns;
 pub mod fault;
 pub mod key;
 
@@ -31,29 +32,6 @@ pub trait Sink {
     // Writes column j into `out`.
     fn read(&self, j: usize, out: &mut [u8]) -> Result<(), SinkFault>
         ensures { Reading (store self.now) j out.old out.new result };
-}
-
-// The checks of making a sink, over memory of `given` bytes where `asked` are wanted.
-fn may_make(size: usize, limit: usize, asked: usize, given: usize) -> Result<(), MakeFault>
-    ensures { result ≡ make_answer size limit asked given }
-{
-    if size == 0 || size > 1664 {
-        return Err(MakeFault::Size(size));
-    }
-    if limit == 0 || limit > 8192 {
-        return Err(MakeFault::Limit);
-    }
-    if given != asked {
-        return Err(MakeFault::Memory);
-    }
-    Ok(())
-}
-
-// Fills memory with zeros.
-fn clear(bytes: &mut [u8])
-    ensures { bytes.new ≡ replicate (length bytes.old) 0 }
-{
-    bytes.fill(0);
 }
 
 impl Fault for SinkFault {

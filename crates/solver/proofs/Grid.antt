@@ -92,8 +92,5 @@ module _ {X : Type 0} (w : ℕ) (number : X → ℕ) where
         | inr q ↦ subst (λ y. number y < 2 ^ w) (sym (get_or-set_other xs i k x d q)) (e k d l')
       ]
 
-  pub clean-read : (xs : List X) (i : ℕ) (x : X) → i < length xs → x ≡ get_or xs i x → Clean w number xs → number x < 2 ^ w
-  clean-read xs i x l q e = subst (λ y. number y < 2 ^ w) (sym q) (e i x l)
-
   pub clean-zero : (xs : List X) → ((k : ℕ) (d : X) → k < length xs → number (get_or xs k d) ≡ 0) → Clean w number xs
   clean-zero xs h k d l = subst (λ v. v < 2 ^ w) (sym (h k d l)) (pow_pos w)

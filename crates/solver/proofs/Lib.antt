@@ -1,3 +1,4 @@
 pub mod Grid
 pub mod Loops
 pub mod Joins
+pub mod Rows

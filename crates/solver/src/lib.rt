@@ -3,11 +3,10 @@
 // that vanishes; the matrix decides which. Fields are crate field's, the theory is crate matrix's.
 #![tactic(auto)]
 
-ghost use Rattle.std.specs.Prelude.{◌≡◌, ℕ, ◌+◌, ◌*◌, ◌^◌, ◌<◌, ◌≤◌, length, ◌≢◌, slice_index_or};
+ghost use Rattle.std.specs.Prelude.{◌≡◌, ℕ, ◌+◌, ◌*◌, ◌<◌, ◌≤◌, length, ◌≢◌, slice_index_or, MatchOption, bit_xor};
+ghost use Rattle.solver.specs.Cells.{limit, entries, Clean, element, entry};
+ghost use Rattle.solver.specs.Answers.{Answer, Solves, told_solving};
 ghost use Rattle.matrix.specs.Matrix.{Mat, Same, delta, add_row, scale_row, swap_rows};
-ghost use Rattle.matrix.specs.Steps.{State, Clearing};
-ghost use Rattle.solver.specs.Cells.{limit, element, entries, Clean};
-ghost use Rattle.solver.specs.Answers.{Answer, TheInverse, Vanishing, told_solving};
 
 use field::Field;
 use refusal::Fault;
@@ -23,14 +22,14 @@ pub struct Table<'a, F: Field> {
     size: usize,
 }
 
-#[derive(Clone, Copy)]
+#[derive(Clone, Copy, Debug, PartialEq, Eq)]
 pub enum Solved {
     Inverse,
     // the row of the second table that holds the combination
     Dependent(usize),
 }
 
-#[derive(Clone, Copy)]
+#[derive(Clone, Copy, Debug, PartialEq, Eq)]
 pub enum SolveFault {
     // the size is 0 or above 1,664, or a table is not of that size
     Size(usize),
@@ -60,7 +59,7 @@ impl<'a, F: Field> Table<'a, F> {
     pub fn solve(&mut self, second: &mut Table<'_, F>) -> Result<Solved, SolveFault>
         ensures sizes { (self.new.size ≡ self.old.size) × (second.new.size ≡ second.old.size) }
         ensures same { (self.new.cells.ghost_name ≡ self.old.cells.ghost_name) × (second.new.cells.ghost_name ≡ second.old.cells.ghost_name) }
-        ensures answer { Answer F.arith F.width F.number self.old.size second.old.size self.old.cells.now second.old.cells.now self.new.cells.now second.new.cells.now result }
+        ensures answer { Answer F.arith F.WIDTH F.number self.old.size second.old.size self.old.cells.now second.old.cells.now self.new.cells.now second.new.cells.now result }
     {
         let n = self.size;
         if n == 0 || n > LARGEST {
@@ -69,265 +68,274 @@ impl<'a, F: Field> Table<'a, F> {
         if second.size != n || self.cells.len() != n * n || second.cells.len() != n * n {
             return Err(SolveFault::Size(n));
         }
-        let r = eliminate(self.cells, second.cells, n);
-        if r < n {
-            Ok(Solved::Dependent(r))
+        Ok(eliminate(self.cells, second.cells, n))
+    }
+}
+
+// Eliminates the first table, with each step made in the second too, which begins as the identity.
+fn eliminate<F: Field>(first: &mut [F], second: &mut [F], n: usize) -> Solved
+    requires size { (length first.old ≡ n * n) × (length second.old ≡ n * n) }
+    requires some { 0 < n }
+    requires small { n ≤ limit }
+    ensures solves { Solves F.arith n (entries F.WIDTH F.number n first.old) (entries F.WIDTH F.number n second.new) result }
+    ensures clean { Clean F.WIDTH F.number first.new × Clean F.WIDTH F.number second.new }
+{
+    let mut table = Square::cleaned(first, n);
+    let mut inverse = Square::identity(second, n);
+    let mut pair = Pair {
+        first: &mut table,
+        second: &mut inverse,
+    };
+    let rank = pair.do_columns();
+    if rank < n {
+        Solved::Dependent(rank)
+    } else {
+        Solved::Inverse
+    }
+}
+
+// Two square tables of one order, in which elimination takes each step side by side.
+#[derive(Drop)]
+struct Pair<'p, 'q, 'a, 'b, F: Field> {
+    first: &'p mut Square<'a, F>,
+    second: &'q mut Square<'b, F>,
+    ghost alike: { second.now.order ≡ first.now.order },
+}
+
+impl<'p, 'q, 'a, 'b, F: Field> Pair<'p, 'q, 'a, 'b, F> {
+    ghost use Rattle.solver.specs.Squares.{matrix, Kept, Reaches, Clears};
+
+    // Deals with every column, and gives the number of pivots.
+    fn do_columns(&mut self) -> usize
+        requires some { 0 < self.old.first.now.order }
+        ensures place { Kept self.old self.new }
+        ensures state { (M : Mat) → Reaches self.old M 0 0 → Reaches self.new M self.old.first.now.order result }
+    {
+        let mut r = 0;
+        // A step takes a column's number in two tables, so there is no slice to go over.
+        for c in 0..self.first.order() {
+            r = self.do_column(c, r);
+        }
+        r
+    }
+
+    // Deals with column c, after r pivots, and gives the number of pivots.
+    fn do_column(&mut self, c: usize, r: usize) -> usize
+        requires within { (c < self.old.first.now.order) × (r ≤ c) }
+        ensures most { result ≤ c + 1 }
+        ensures place { Kept self.old self.new }
+        ensures state { (M : Mat) → Reaches self.old M c r → Reaches self.new M (c + 1) result }
+    {
+        match self.first.find_pivot(c, r) {
+            Some(p) => {
+                self.take_pivot(c, r, p);
+                r + 1
+            }
+            None => r,
+        }
+    }
+
+    // Brings row p, from r on, with the pivot of column c, to place r, and clears the column by it.
+    fn take_pivot(&mut self, c: usize, r: usize, p: usize)
+        requires within { (c < self.old.first.now.order) × (r ≤ p) × (p < self.old.first.now.order) }
+        requires pivot { matrix self.old.first.now p c ≢ 0 }
+        ensures place { Kept self.old self.new }
+        ensures state { (M : Mat) → Reaches self.old M c r → Reaches self.new M (c + 1) (r + 1) }
+    {
+        self.first.swap_rows(r, p);
+        self.second.swap_rows(r, p);
+        let v = self.first.get(r, c).inverse();
+        self.first.scale_row(r, v);
+        self.second.scale_row(r, v);
+        self.clear_column(c, r);
+    }
+
+    // Clears column c in every row but r, whose entry there is 1.
+    fn clear_column(&mut self, c: usize, r: usize)
+        requires within { (c < self.old.first.now.order) × (r < self.old.first.now.order) }
+        ensures place { Kept self.old self.new }
+        ensures state { (M : Mat) → Clears self.old M c r 0 → Reaches self.new M (c + 1) (r + 1) }
+    {
+        // By number, as the columns.
+        for i in 0..self.first.order() {
+            self.clear_row(c, r, i);
+        }
+    }
+
+    // Clears row i in column c, if it is not row r.
+    fn clear_row(&mut self, c: usize, r: usize, i: usize)
+        requires within { (c < self.old.first.now.order) × (r < self.old.first.now.order) × (i < self.old.first.now.order) }
+        ensures place { Kept self.old self.new }
+        ensures state { (M : Mat) → Clears self.old M c r i → Clears self.new M c r (i + 1) }
+    {
+        if i == r {
+            return;
+        }
+        let s = self.first.get(i, c);
+        if s.is_zero() {
+            return;
+        }
+        self.first.add_row(i, r, s);
+        self.second.add_row(i, r, s);
+    }
+}
+
+// A table of n by n cells, row after row, in which no cell has bits above its element.
+#[derive(Drop)]
+struct Square<'a, F: Field> {
+    cells: &'a mut [F],
+    order: usize,
+    ghost square: { length cells.now ≡ order * order },
+    ghost small: { order ≤ limit },
+    ghost clean: { Clean F.WIDTH F.number cells.now },
+}
+
+impl<'a, F: Field> Square<'a, F> {
+    ghost use Rattle.solver.specs.Squares.{matrix, InPlace};
+
+    // The table of the elements that the cells mean.
+    fn cleaned(cells: &'a mut [F], order: usize) -> Square<'a, F>
+        requires size { length cells.old ≡ order * order }
+        requires small { order ≤ limit }
+        ensures place { (result.order ≡ order) × (result.cells.ghost_name ≡ cells.entry.ghost_name) }
+        ensures made { (i j : ℕ) → matrix result i j ≡ entries F.WIDTH F.number order cells.old i j }
+    {
+        make_clean(cells);
+        Square { cells, order }
+    }
+
+    fn identity(cells: &'a mut [F], order: usize) -> Square<'a, F>
+        requires size { length cells.old ≡ order * order }
+        requires small { order ≤ limit }
+        ensures place { (result.order ≡ order) × (result.cells.ghost_name ≡ cells.entry.ghost_name) }
+        ensures made { Same order (matrix result) delta }
+    {
+        make_identity(cells, order);
+        Square { cells, order }
+    }
+
+    fn order(&self) -> usize
+        ensures { result ≡ self.now.order }
+    {
+        self.order
+    }
+
+    // Row i, column j.
+    fn get(&self, i: usize, j: usize) -> F
+        requires within { (i < self.now.order) × (j < self.now.order) }
+        ensures { element F.WIDTH F.number result ≡ matrix self.now i j }
+    {
+        self.cells[i * self.order + j]
+    }
+
+    // The first row from r on whose entry in column c is not zero.
+    fn find_pivot(&self, c: usize, r: usize) -> Option<usize>
+        requires within { c < self.now.order }
+        ensures { MatchOption result ((a : ℕ) → r ≤ a → a < self.now.order → matrix self.now a c ≡ 0) (λ p. (r ≤ p) × (p < self.now.order) × (matrix self.now p c ≢ 0) × ((a : ℕ) → r ≤ a → a < p → matrix self.now a c ≡ 0)) }
+    {
+        (r..self.order).find(|p| !self.get(*p, c).is_zero())
+    }
+
+    fn swap_rows(&mut self, i: usize, r: usize)
+        requires within { (i ≤ r) × (r < self.old.order) }
+        ensures place { InPlace self.old self.new }
+        ensures made { Same self.old.order (matrix self.new) (swap_rows i r (matrix self.old)) }
+    {
+        if i == r {
+            return;
+        }
+        let n = self.order;
+        let cells = &mut *self.cells;
+        let (low, high) = cells.split_at_mut(r * n);
+        low[i * n..i * n + n].swap_with_slice(&mut high[..n]);
+    }
+
+    // Multiplies row i by s.
+    fn scale_row(&mut self, i: usize, s: F)
+        requires within { i < self.old.order }
+        ensures place { InPlace self.old self.new }
+        ensures made { Same self.old.order (matrix self.new) (scale_row F.arith i (element F.WIDTH F.number s) (matrix self.old)) }
+    {
+        let n = self.order;
+        scale(&mut self.cells[i * n..i * n + n], s);
+    }
+
+    // Adds s times row r to row i.
+    fn add_row(&mut self, i: usize, r: usize, s: F)
+        requires within { (i < self.old.order) × (r < self.old.order) }
+        requires apart { i ≢ r }
+        ensures place { InPlace self.old self.new }
+        ensures made { Same self.old.order (matrix self.new) (add_row F.arith i r (element F.WIDTH F.number s) (matrix self.old)) }
+    {
+        let n = self.order;
+        let cells = &mut *self.cells;
+        if i < r {
+            let (low, high) = cells.split_at_mut(r * n);
+            add_scaled(&mut low[i * n..i * n + n], &high[..n], s);
         } else {
-            Ok(Solved::Inverse)
+            let (low, high) = cells.split_at_mut(i * n);
+            add_scaled(&mut high[..n], &low[r * n..r * n + n], s);
         }
     }
 }
 
-// Gives the rank of the first table. The second ends as its inverse where the rank is full; else
-// the row that the rank names ends as a combination that vanishes.
-fn eliminate<F: Field>(first: &mut [F], second: &mut [F], n: usize) -> usize
-    requires size { (length first.old ≡ n * n) × (length second.old ≡ n * n) }
-    requires some { 0 < n }
-    requires small { n ≤ limit }
-    ensures whole { n ≤ result → TheInverse F.arith n (entries F.width F.number n first.old) (entries F.width F.number n second.new) }
-    ensures short { result < n → Vanishing F.arith n (entries F.width F.number n first.old) (entries F.width F.number n second.new) result }
-    ensures clean { Clean F.width F.number first.new × Clean F.width F.number second.new }
+// Multiplies a row by s.
+fn scale<F: Field>(row: &mut [F], s: F)
+    ensures made { (k : ℕ) → k < length row.old → entry F.WIDTH F.number row.new k ≡ F.arith.mul (element F.WIDTH F.number s) (entry F.WIDTH F.number row.old k) }
+    ensures clean { Clean F.WIDTH F.number row.new }
 {
-    make_clean(first);
-    make_identity(second, n);
-    do_columns(first, second, n)
-}
-
-// Deals with every column, and gives the number of pivots.
-fn do_columns<F: Field>(first: &mut [F], second: &mut [F], n: usize) -> usize
-    requires size { (length first.old ≡ n * n) × (length second.old ≡ n * n) }
-    requires some { 0 < n }
-    requires small { n ≤ limit }
-    ensures state { (M : Mat) → State F.arith n M (entries F.width F.number n first.old) (entries F.width F.number n second.old) 0 0 → State F.arith n M (entries F.width F.number n first.new) (entries F.width F.number n second.new) n result }
-    ensures first { Clean F.width F.number first.old → Clean F.width F.number first.new }
-    ensures second { Clean F.width F.number second.old → Clean F.width F.number second.new }
-{
-    let mut r = 0;
-    for c in 0..n {
-        r = do_column(first, second, n, c, r);
-    }
-    r
-}
-
-// Deals with column c, after r pivots, and gives the number of pivots.
-fn do_column<F: Field>(first: &mut [F], second: &mut [F], n: usize, c: usize, r: usize) -> usize
-    requires size { (length first.old ≡ n * n) × (length second.old ≡ n * n) }
-    requires small { n ≤ limit }
-    requires within { (c < n) × (r ≤ c) }
-    ensures most { result ≤ c + 1 }
-    ensures state { (M : Mat) → State F.arith n M (entries F.width F.number n first.old) (entries F.width F.number n second.old) c r → State F.arith n M (entries F.width F.number n first.new) (entries F.width F.number n second.new) (c + 1) result }
-    ensures first { Clean F.width F.number first.old → Clean F.width F.number first.new }
-    ensures second { Clean F.width F.number second.old → Clean F.width F.number second.new }
-{
-    let p = find_pivot(first, n, c, r);
-    if p < n {
-        take_pivot(first, second, n, c, r, p);
-        return r + 1;
-    }
-    r
-}
-
-// The first row from r on whose entry in column c is not zero, or n.
-fn find_pivot<F: Field>(cells: &[F], n: usize, c: usize, r: usize) -> usize
-    requires size { length cells.now ≡ n * n }
-    requires small { n ≤ limit }
-    requires within { (c < n) × (r ≤ n) }
-    ensures range { (r ≤ result) × (result ≤ n) }
-    ensures passed { (a : ℕ) → r ≤ a → a < result → entries F.width F.number n cells.now a c ≡ 0 }
-    ensures found { result < n → entries F.width F.number n cells.now result c ≢ 0 }
-{
-    for p in r..n {
-        if !get(cells, n, p, c).is_zero() {
-            return p;
-        }
-    }
-    n
-}
-
-// Brings row p, from r on, with the pivot of column c, to place r, and clears the column by it.
-fn take_pivot<F: Field>(first: &mut [F], second: &mut [F], n: usize, c: usize, r: usize, p: usize)
-    requires size { (length first.old ≡ n * n) × (length second.old ≡ n * n) }
-    requires small { n ≤ limit }
-    requires within { (c < n) × (r ≤ p) × (p < n) }
-    requires pivot { entries F.width F.number n first.old p c ≢ 0 }
-    ensures state { (M : Mat) → State F.arith n M (entries F.width F.number n first.old) (entries F.width F.number n second.old) c r → State F.arith n M (entries F.width F.number n first.new) (entries F.width F.number n second.new) (c + 1) (r + 1) }
-    ensures first { Clean F.width F.number first.old → Clean F.width F.number first.new }
-    ensures second { Clean F.width F.number second.old → Clean F.width F.number second.new }
-{
-    swap_both(first, second, n, r, p);
-    let v = get(first, n, r, c).inverse();
-    scale_both(first, second, n, r, v);
-    clear_column(first, second, n, c, r);
-}
-
-// Clears column c in every row but r, whose entry there is 1; each step is made in both tables.
-fn clear_column<F: Field>(first: &mut [F], second: &mut [F], n: usize, c: usize, r: usize)
-    requires size { (length first.old ≡ n * n) × (length second.old ≡ n * n) }
-    requires small { n ≤ limit }
-    requires within { (c < n) × (r < n) }
-    ensures state { (M : Mat) → Clearing F.arith n M (entries F.width F.number n first.old) (entries F.width F.number n second.old) c r 0 → State F.arith n M (entries F.width F.number n first.new) (entries F.width F.number n second.new) (c + 1) (r + 1) }
-    ensures first { Clean F.width F.number first.old → Clean F.width F.number first.new }
-    ensures second { Clean F.width F.number second.old → Clean F.width F.number second.new }
-{
-    for i in 0..n {
-        clear_row(first, second, n, c, r, i);
+    for x in row.iter_mut() {
+        *x = s.times(*x);
     }
 }
 
-// Clears row i in column c, if it is not row r.
-fn clear_row<F: Field>(first: &mut [F], second: &mut [F], n: usize, c: usize, r: usize, i: usize)
-    requires size { (length first.old ≡ n * n) × (length second.old ≡ n * n) }
-    requires small { n ≤ limit }
-    requires within { (c < n) × (r < n) × (i < n) }
-    ensures state { (M : Mat) → Clearing F.arith n M (entries F.width F.number n first.old) (entries F.width F.number n second.old) c r i → Clearing F.arith n M (entries F.width F.number n first.new) (entries F.width F.number n second.new) c r (i + 1) }
-    ensures first { Clean F.width F.number first.old → Clean F.width F.number first.new }
-    ensures second { Clean F.width F.number second.old → Clean F.width F.number second.new }
+// Adds s times another row to a row. The other is copied first: of two lent rows the compiler does
+// not know that they are apart, and would add cell by cell, which takes six times as long (1,664
+// rows of bits: 3 s for 0.5 s).
+fn add_scaled<F: Field>(row: &mut [F], other: &[F], s: F)
+    requires alike { length row.old ≡ length other.now }
+    requires small { length other.now ≤ limit }
+    ensures made { (k : ℕ) → k < length row.old → entry F.WIDTH F.number row.new k ≡ bit_xor (entry F.WIDTH F.number row.old k) (F.arith.mul (element F.WIDTH F.number s) (entry F.WIDTH F.number other.now k)) }
+    ensures clean { Clean F.WIDTH F.number row.new }
 {
-    if i == r {
-        return;
+    let mut copy = [F::of(0); LARGEST];
+    // Not by copy_from_slice: that a slice of so many F fits in memory is not known of every F.
+    for (k, x) in other.iter().enumerate() {
+        copy[k] = *x;
     }
-    let s = get(first, n, i, c);
-    if s.is_zero() {
-        return;
-    }
-    add_both(first, second, n, i, r, s);
-}
-
-// Exchanges rows i and r of both tables.
-fn swap_both<F: Field>(first: &mut [F], second: &mut [F], n: usize, i: usize, r: usize)
-    requires size { (length first.old ≡ n * n) × (length second.old ≡ n * n) }
-    requires small { n ≤ limit }
-    requires within { (i < n) × (r < n) }
-    ensures first { Same n (entries F.width F.number n first.new) (swap_rows i r (entries F.width F.number n first.old)) }
-    ensures second { Same n (entries F.width F.number n second.new) (swap_rows i r (entries F.width F.number n second.old)) }
-    ensures clean { (Clean F.width F.number first.old → Clean F.width F.number first.new) × (Clean F.width F.number second.old → Clean F.width F.number second.new) }
-{
-    swap_rows(first, n, i, r);
-    swap_rows(second, n, i, r);
-}
-
-// Multiplies row i of both tables by s.
-fn scale_both<F: Field>(first: &mut [F], second: &mut [F], n: usize, i: usize, s: F)
-    requires size { (length first.old ≡ n * n) × (length second.old ≡ n * n) }
-    requires small { n ≤ limit }
-    requires within { i < n }
-    ensures first { Same n (entries F.width F.number n first.new) (scale_row F.arith i (element F.width F.number s) (entries F.width F.number n first.old)) }
-    ensures second { Same n (entries F.width F.number n second.new) (scale_row F.arith i (element F.width F.number s) (entries F.width F.number n second.old)) }
-    ensures clean { (Clean F.width F.number first.old → Clean F.width F.number first.new) × (Clean F.width F.number second.old → Clean F.width F.number second.new) }
-{
-    scale_row(first, n, i, s);
-    scale_row(second, n, i, s);
-}
-
-// Adds s times row r to row i in both tables.
-fn add_both<F: Field>(first: &mut [F], second: &mut [F], n: usize, i: usize, r: usize, s: F)
-    requires size { (length first.old ≡ n * n) × (length second.old ≡ n * n) }
-    requires small { n ≤ limit }
-    requires within { (i < n) × (r < n) }
-    ensures first { Same n (entries F.width F.number n first.new) (add_row F.arith i r (element F.width F.number s) (entries F.width F.number n first.old)) }
-    ensures second { Same n (entries F.width F.number n second.new) (add_row F.arith i r (element F.width F.number s) (entries F.width F.number n second.old)) }
-    ensures clean { (Clean F.width F.number first.old → Clean F.width F.number first.new) × (Clean F.width F.number second.old → Clean F.width F.number second.new) }
-{
-    add_row(first, n, i, r, s);
-    add_row(second, n, i, r, s);
-}
-
-// Adds s times row r to row i. Row r is copied first: of two rows in one slice the compiler does
-// not know that they are apart, and would add cell by cell.
-fn add_row<F: Field>(cells: &mut [F], n: usize, i: usize, r: usize, s: F)
-    requires size { length cells.old ≡ n * n }
-    requires small { n ≤ limit }
-    requires within { (i < n) × (r < n) }
-    ensures made { Same n (entries F.width F.number n cells.new) (add_row F.arith i r (element F.width F.number s) (entries F.width F.number n cells.old)) }
-    ensures clean { Clean F.width F.number cells.old → Clean F.width F.number cells.new }
-{
-    let mut row = [F::of(0); LARGEST];
-    for k in 0..n {
-        row[k] = get(cells, n, r, k);
-    }
-    for j in 0..n {
-        let x = get(cells, n, i, j);
-        put(cells, n, i, j, x.plus(s.times(row[j])));
-    }
-}
-
-// Multiplies row i by s.
-fn scale_row<F: Field>(cells: &mut [F], n: usize, i: usize, s: F)
-    requires size { length cells.old ≡ n * n }
-    requires small { n ≤ limit }
-    requires within { i < n }
-    ensures made { Same n (entries F.width F.number n cells.new) (scale_row F.arith i (element F.width F.number s) (entries F.width F.number n cells.old)) }
-    ensures clean { Clean F.width F.number cells.old → Clean F.width F.number cells.new }
-{
-    for k in 0..n {
-        let x = get(cells, n, i, k);
-        put(cells, n, i, k, s.times(x));
-    }
-}
-
-fn swap_rows<F: Field>(cells: &mut [F], n: usize, i: usize, r: usize)
-    requires size { length cells.old ≡ n * n }
-    requires small { n ≤ limit }
-    requires within { (i < n) × (r < n) }
-    ensures made { Same n (entries F.width F.number n cells.new) (swap_rows i r (entries F.width F.number n cells.old)) }
-    ensures clean { Clean F.width F.number cells.old → Clean F.width F.number cells.new }
-{
-    for k in 0..n {
-        let x = get(cells, n, i, k);
-        let y = get(cells, n, r, k);
-        put(cells, n, i, k, y);
-        put(cells, n, r, k, x);
-    }
-}
-
-fn make_identity<F: Field>(cells: &mut [F], n: usize)
-    requires size { length cells.old ≡ n * n }
-    requires small { n ≤ limit }
-    ensures made { Same n (entries F.width F.number n cells.new) delta }
-    ensures clean { Clean F.width F.number cells.new }
-{
-    make_zero(cells);
-    for i in 0..n {
-        put(cells, n, i, i, F::of(1));
-    }
-}
-
-fn make_zero<F: Field>(cells: &mut [F])
-    ensures zero { (k : ℕ) (d : F) → k < length cells.new → F.number (slice_index_or cells.new k d) ≡ 0 }
-{
-    for x in cells.iter_mut() {
-        *x = F::of(0);
+    for (j, x) in row.iter_mut().enumerate() {
+        *x = x.plus(s.times(copy[j]));
     }
 }
 
 // Takes off the bits above the elements.
 fn make_clean<F: Field>(cells: &mut [F])
-    ensures made { (n i j : ℕ) → entries F.width F.number n cells.new i j ≡ entries F.width F.number n cells.old i j }
-    ensures clean { Clean F.width F.number cells.new }
+    ensures made { (n i j : ℕ) → entries F.WIDTH F.number n cells.new i j ≡ entries F.WIDTH F.number n cells.old i j }
+    ensures clean { Clean F.WIDTH F.number cells.new }
 {
     for x in cells.iter_mut() {
         *x = F::of(x.get());
     }
 }
 
-// Row i, column j.
-fn get<F: Field>(cells: &[F], n: usize, i: usize, j: usize) -> F
-    requires size { length cells.now ≡ n * n }
-    requires small { n ≤ limit }
-    requires within { (i < n) × (j < n) }
-    ensures value { element F.width F.number result ≡ entries F.width F.number n cells.now i j }
-    ensures clean { Clean F.width F.number cells.now → F.number result < 2 ^ F.width }
-{
-    cells[i * n + j]
-}
-
-fn put<F: Field>(cells: &mut [F], n: usize, i: usize, j: usize, x: F)
+fn make_identity<F: Field>(cells: &mut [F], n: usize)
     requires size { length cells.old ≡ n * n }
     requires small { n ≤ limit }
-    requires within { (i < n) × (j < n) }
-    ensures here { entries F.width F.number n cells.new i j ≡ element F.width F.number x }
-    ensures others { (a b : ℕ) → a < n → b < n → (a ≡ i → b ≢ j) → entries F.width F.number n cells.new a b ≡ entries F.width F.number n cells.old a b }
-    ensures clean { F.number x < 2 ^ F.width → Clean F.width F.number cells.old → Clean F.width F.number cells.new }
+    ensures made { Same n (entries F.WIDTH F.number n cells.new) delta }
+    ensures clean { Clean F.WIDTH F.number cells.new }
 {
-    cells[i * n + j] = x;
+    make_zero(cells);
+    // The diagonal is no slice: its cells are had by their places alone.
+    for i in 0..n {
+        cells[i * n + i] = F::of(1);
+    }
+}
+
+// Not by fill: that a Clone of F cannot fail is not known of every F.
+fn make_zero<F: Field>(cells: &mut [F])
+    ensures zero { (k : ℕ) (d : F) → k < length cells.new → F.number (slice_index_or cells.new k d) ≡ 0 }
+{
+    for x in cells.iter_mut() {
+        *x = F::of(0);
+    }
 }

@@ -11,7 +11,7 @@ use solver::{SolveFault, Solved, Table};
 
 // Solves the n by n table a, with b as the second.
 pub fn solve<F: Field>(a: &mut [F], b: &mut [F], n: usize) -> Result<Solved, SolveFault>
-    ensures { Answer F.arith F.width F.number n n a.old b.old a.new b.new result }
+    ensures { Answer F.arith F.WIDTH F.number n n a.old b.old a.new b.new result }
 {
     let mut first = Table::new(a, n);
     let mut second = Table::new(b, n);
@@ -36,36 +36,10 @@ mod tests {
     fn fill(columns: &[u8; 8], cells: &mut [Bit])
         requires { length cells.old ≡ 64 }
     {
-        for i in 0..8 {
-            for j in 0..8 {
-                cells[i * 8 + j] = Bit {
-                    value: bit(columns, j, i) | 0xFE,
-                };
-            }
-        }
-    }
-
-    fn is_inverse(r: Result<Solved, SolveFault>) -> bool {
-        match r {
-            Ok(Solved::Inverse) => true,
-            _ => false,
-        }
-    }
-
-    fn is_dependent(r: Result<Solved, SolveFault>, row: usize) -> bool {
-        match r {
-            Ok(Solved::Dependent(at)) => at == row,
-            _ => false,
-        }
-    }
-
-    // Refused with number 29 and the size for its place.
-    fn is_refused(r: Result<Solved, SolveFault>, size: u16) -> bool {
-        match r {
-            Err(fault) => fault.number() == 29
-                && fault.place() == size
-                && fault.layer() == Layer::Solving,
-            _ => false,
+        for (k, cell) in cells.iter_mut().enumerate() {
+            *cell = Bit {
+                value: bit(columns, k % 8, k / 8) | 0xFE,
+            };
         }
     }
 
@@ -76,11 +50,9 @@ mod tests {
         let mut a = [Bit { value: 0 }; 64];
         let mut b = [Bit { value: 0xFF }; 64];
         fill(&columns, &mut a);
-        assert!(rt; is_inverse(solve(&mut a, &mut b, 8)));
-        for i in 0..8 {
-            for j in 0..8 {
-                assert!(rt; b[i * 8 + j].value == bit(&rows, i, j));
-            }
+        assert!(rt; solve(&mut a, &mut b, 8) == Ok(Solved::Inverse));
+        for (k, cell) in b.iter().enumerate() {
+            assert!(rt; cell.value == bit(&rows, k / 8, k % 8));
         }
     }
 
@@ -89,10 +61,13 @@ mod tests {
         for size in [0, 1, 3, 1665] {
             let mut a = [Bit { value: 7 }; 4];
             let mut b = [Bit { value: 9 }; 4];
-            assert!(rt; is_refused(solve(&mut a, &mut b, size), size as u16));
-            for k in 0..4 {
-                assert!(rt; a[k].value == 7 && b[k].value == 9);
-            }
+            let fault = SolveFault::Size(size);
+            assert!(rt; solve(&mut a, &mut b, size) == Err(fault));
+            assert!(rt; fault.number() == 29);
+            assert!(rt; fault.place() == size as u16);
+            assert!(rt; fault.layer() == Layer::Solving);
+            assert!(rt; a.iter().all(|cell| cell.value == 7));
+            assert!(rt; b.iter().all(|cell| cell.value == 9));
         }
     }
 
@@ -101,8 +76,8 @@ mod tests {
         for length in [3, 5] {
             let mut a = [Bit { value: 1 }; 5];
             let mut b = [Bit { value: 1 }; 4];
-            assert!(rt; is_refused(solve(&mut a[..length], &mut b, 2), 2));
-            assert!(rt; is_refused(solve(&mut b, &mut a[..length], 2), 2));
+            assert!(rt; solve(&mut a[..length], &mut b, 2) == Err(SolveFault::Size(2)));
+            assert!(rt; solve(&mut b, &mut a[..length], 2) == Err(SolveFault::Size(2)));
             assert!(rt; a[0].value == 1 && a[3].value == 1 && b[0].value == 1 && b[3].value == 1);
         }
     }
@@ -111,19 +86,19 @@ mod tests {
     fn reads_cells_full_of_ones_as_one(rt: HostRuntime) {
         let mut one = [Bit { value: 0xFF }; 1];
         let mut inverse = [Bit { value: 0xFF }; 1];
-        assert!(rt; is_inverse(solve(&mut one, &mut inverse, 1)));
+        assert!(rt; solve(&mut one, &mut inverse, 1) == Ok(Solved::Inverse));
         assert!(rt; inverse[0].value == 1);
         let mut ones = [Bit { value: 0xFF }; 4];
         let mut combination = [Bit { value: 0xFF }; 4];
-        assert!(rt; is_dependent(solve(&mut ones, &mut combination, 2), 1));
+        assert!(rt; solve(&mut ones, &mut combination, 2) == Ok(Solved::Dependent(1)));
         assert!(rt; combination[2].value == 1 && combination[3].value == 1);
     }
 
     #[test]
     fn finds_zero_dependent(rt: HostRuntime) {
-        let mut zero = [Gf4 { value: 0xFFF0 }; 1];
-        let mut combination = [Gf4 { value: 0 }; 1];
-        assert!(rt; is_dependent(solve(&mut zero, &mut combination, 1), 0));
+        let mut zero = [Gf4::from(0xFFF0); 1];
+        let mut combination = [Gf4::from(0); 1];
+        assert!(rt; solve(&mut zero, &mut combination, 1) == Ok(Solved::Dependent(0)));
         assert!(rt; combination[0].value == 1);
     }
 
@@ -131,13 +106,13 @@ mod tests {
     #[test]
     fn inverts_over_thirteen_bits(rt: HostRuntime) {
         let mut a = [
-            Gf13 { value: 0xE002 },
-            Gf13 { value: 1 },
-            Gf13 { value: 0 },
-            Gf13 { value: 1 },
+            Gf13::from(0xE002),
+            Gf13::from(1),
+            Gf13::from(0),
+            Gf13::from(1),
         ];
-        let mut b = [Gf13 { value: 0 }; 4];
-        assert!(rt; is_inverse(solve(&mut a, &mut b, 2)));
+        let mut b = [Gf13::from(0); 4];
+        assert!(rt; solve(&mut a, &mut b, 2) == Ok(Solved::Inverse));
         assert!(rt;
             b[0].value == 0x100D && b[1].value == 0x100D && b[2].value == 0 && b[3].value == 1
         );

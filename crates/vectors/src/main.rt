@@ -3,6 +3,8 @@
 // The rows are prepared by solving, the blinding is made here, dense and the same in every run.
 #![tactic(auto)]
 
+ghost use Rattle.std.specs.Prelude.{◌<◌};
+
 use bits::{bytes_for, get_bit, xor_row};
 use block::SlotKey;
 use field::{Bit, Field};
@@ -13,6 +15,7 @@ use sink::Sink;
 use sink::key::PackedKey;
 use solver::{Solved, Table};
 use std::alloc::{AllocError, Global};
+use std::cmp::Ordering;
 use std::fs;
 
 const SETS: [&str; 5] = [
@@ -52,17 +55,15 @@ fn upper_row(
     i: usize,
     drawn: &mut Sequence,
 ) -> Result<Vec<u8>, AllocError> {
-    let mut row = Vec::new(heap);
-    for j in 0..bytes_for(n) {
+    let unit = 1u8 << (i % 8);
+    let mut row = vec![in heap; 0u8; bytes_for(n)]?;
+    for (j, place) in row.iter_mut().enumerate() {
         let byte = drawn.byte();
-        if j < i / 8 {
-            row.push(0)?;
-        } else if j == i / 8 {
-            let low = (1u8 << (i % 8)) - 1;
-            row.push(byte & !low | (1 << (i % 8)))?;
-        } else {
-            row.push(byte)?;
-        }
+        *place = match j.cmp(&(i / 8)) {
+            Ordering::Less => 0,
+            Ordering::Equal => byte & !(unit - 1) | unit,
+            Ordering::Greater => byte,
+        };
     }
     Ok(row)
 }
@@ -72,21 +73,18 @@ fn dense(heap: Global, n: usize) -> Result<Vec<u8>, AllocError> {
     let mut drawn = Sequence {
         state: 0x0123_4567_89ab_cdef,
     };
-    let length = bytes_for(n);
     let mut upper = Vec::new(heap);
     for i in 0..n {
-        let row = upper_row(heap, n, i, &mut drawn)?;
-        upper.extend_from_slice(&row)?;
+        upper.push(upper_row(heap, n, i, &mut drawn)?)?;
     }
     let mut product = Vec::new(heap);
-    for i in 0..n {
-        let mut row = vec![in heap; 0u8; length]?;
-        for j in 0..i {
+    for (i, last) in upper.iter().enumerate() {
+        let mut row = last.clone()?;
+        for above in upper.iter().take(i) {
             if drawn.next() & 1 == 1 {
-                xor_row(&upper, j.saturating_mul(length), &mut row);
+                xor_row(above, 0, &mut row);
             }
         }
-        xor_row(&upper, i.saturating_mul(length), &mut row);
         product.extend_from_slice(&row)?;
     }
     Ok(product)
@@ -98,18 +96,15 @@ fn blank(heap: Global, n: usize) -> Result<Vec<Bit>, AllocError> {
 }
 
 // Puts a packed column into column j of a table of n columns.
-fn keep_column(table: &mut [Bit], n: usize, j: usize, column: &[u8]) {
-    if n == 0 {
-        return;
-    }
-    let mut i = 0usize;
-    for row in table.chunks_mut(n) {
+fn keep_column(table: &mut [Bit], n: usize, j: usize, column: &[u8])
+    requires { 0 < n }
+{
+    for (i, row) in table.chunks_mut(n).enumerate() {
         if let Some(cell) = row.get_mut(j) {
             *cell = Bit {
                 value: get_bit(column, i),
             };
         }
-        i = i.saturating_add(1);
     }
 }
 
@@ -117,168 +112,115 @@ fn keep_column(table: &mut [Bit], n: usize, j: usize, column: &[u8]) {
 fn invert(first: &mut [Bit], second: &mut [Bit], n: usize) -> bool {
     let mut from = Table::new(first, n);
     let mut into = Table::new(second, n);
-    match from.solve(&mut into) {
-        Ok(Solved::Inverse) => true,
-        _ => false,
-    }
+    matches!(from.solve(&mut into), Ok(Solved::Inverse))
 }
 
-// Adds the cells of a row to a frame, packed.
-fn pack_row(frame: &mut Vec<u8>, row: &[Bit]) -> Result<(), AllocError> {
-    for eight in row.chunks(8) {
-        let mut byte = 0u8;
-        for cell in eight.iter().rev() {
-            byte = (byte << 1) | (cell.get() & 1) as u8;
-        }
-        frame.push(byte)?;
-    }
-    Ok(())
+// Eight cells as a byte, the first one in its lowest bit.
+fn packed(eight: &[Bit]) -> u8 {
+    eight
+        .iter()
+        .rev()
+        .fold(0, |byte, cell| (byte << 1) | (cell.get() & 1) as u8)
 }
 
-// The two bytes of a number, the low one first.
-fn word(x: usize) -> [u8; 2] {
-    [(x & 0xff) as u8, (x >> 8 & 0xff) as u8]
-}
-
-// A card's side of a session: key, blinding, and the memories that it lends.
+// A session under way, and what a card keeps beside it. A frame begins with its kind, 11 for a column
+// and 12 for a row, and an index, the low byte first.
 #[derive(Drop)]
-struct Card<'a> {
+struct Bench<'a> {
+    heap: Global,
     key: SlotKey<'a>,
     blinding: StoredMatrix<'a>,
+    session: Open,
+    inverse: Vec<u8>,
 }
 
-// Sends a frame; the reply, or nothing where it was refused.
-fn send(
-    card: &Card<'_>,
-    session: &mut Open,
-    inverse: &mut [u8],
-    frame: &[u8],
-    reply: &mut [u8],
-) -> bool {
-    let mut working = [0u8; 416];
-    let answer = session.answer(
-        &card.key,
-        &card.blinding,
-        inverse,
-        &mut working,
-        frame,
-        reply,
-    );
-    answer.fault.is_none()
-}
-
-// Asks column j into a table.
-fn ask_column(
-    card: &Card<'_>,
-    session: &mut Open,
-    inverse: &mut [u8],
-    table: &mut [Bit],
-    n: usize,
-    j: usize,
-) {
-    let [low, high] = word(j);
-    let mut reply = [0u8; 211];
-    if send(card, session, inverse, &[0x11, low, high], &mut reply) {
-        keep_column(table, n, j, &reply[3..]);
-    }
-}
-
-// Asks all columns into a table.
-fn ask(
-    heap: Global,
-    card: &Card<'_>,
-    session: &mut Open,
-    inverse: &mut [u8],
-    n: usize,
-) -> anyhow::Result<Vec<Bit>> {
-    let mut table = blank(heap, n)?;
-    for j in 0..n {
-        ask_column(card, session, inverse, &mut table, n, j);
-    }
-    Ok(table)
-}
-
-// Sends row i; whether it was taken.
-fn send_row(
-    heap: Global,
-    card: &Card<'_>,
-    session: &mut Open,
-    inverse: &mut [u8],
-    row: &[Bit],
-    i: usize,
-) -> anyhow::Result<bool> {
-    let [low, high] = word(i);
-    let mut frame = vec![in heap; 0x12u8, low, high]?;
-    pack_row(&mut frame, row)?;
-    let mut reply = [0u8; 211];
-    Ok(send(card, session, inverse, &frame, &mut reply))
-}
-
-// Sends the rows of a table; how many were taken.
-fn answer_rows(
-    heap: Global,
-    card: &Card<'_>,
-    session: &mut Open,
-    inverse: &mut [u8],
-    table: &[Bit],
-    n: usize,
-) -> anyhow::Result<usize> {
-    let mut taken = 0usize;
-    if n == 0 {
-        return Ok(0);
-    }
-    for (i, row) in table.chunks(n).enumerate() {
-        if send_row(heap, card, session, inverse, row, i)? {
-            taken = taken.saturating_add(1);
+impl Bench<'_> {
+    // Sends a frame; the reply, or none where it was refused.
+    fn send(&mut self, frame: &[u8]) -> Option<[u8; 211]> {
+        let mut working = [0u8; 416];
+        let mut reply = [0u8; 211];
+        let answer = self.session.answer(
+            &self.key,
+            &self.blinding,
+            &mut self.inverse,
+            &mut working,
+            frame,
+            &mut reply,
+        );
+        match answer.fault {
+            Some(_) => None,
+            None => Some(reply),
         }
     }
-    Ok(taken)
+
+    // Asks all columns into a table.
+    fn ask(&mut self, n: usize) -> anyhow::Result<Vec<Bit>> {
+        let mut table = blank(self.heap, n)?;
+        for j in 0..n {
+            let [low, high, ..] = j.to_le_bytes();
+            if let Some(reply) = self.send(&[0x11, low, high]) {
+                keep_column(&mut table, n, j, &reply[3..]);
+            }
+        }
+        Ok(table)
+    }
+
+    // Sends row i; whether it was taken.
+    fn send_row(&mut self, i: usize, row: &[Bit]) -> anyhow::Result<bool> {
+        let [low, high, ..] = i.to_le_bytes();
+        let mut frame = vec![in self.heap; 0x12u8, low, high]?;
+        frame.extend(row.chunks(8).map(packed))?;
+        Ok(self.send(&frame).is_some())
+    }
+
+    // Sends the rows of a table; how many were taken. A loop counts, since making a frame may fail.
+    fn send_rows(&mut self, table: &[Bit], n: usize) -> anyhow::Result<usize>
+        requires { 0 < n }
+    {
+        let mut taken = 0usize;
+        for (i, row) in table.chunks(n).enumerate() {
+            if self.send_row(i, row)? {
+                taken = taken.saturating_add(1);
+            }
+        }
+        Ok(taken)
+    }
+
+    // Closes the session, publishes all columns and compares.
+    fn finish(self, rt: &HostRuntime, name: &str, published: &[u8]) -> anyhow::Result<()> {
+        let Ok(mut ready) = self.session.close() else {
+            println!(rt; "{name}: not complete")?;
+            return Ok(());
+        };
+        let (n, k) = (self.key.slot.set.rows(), self.key.slot.set.rest());
+        let mut memory = vec![in self.heap; 0u8; n.saturating_mul(bytes_for(k))]?;
+        let mut store = PackedKey::new(&mut memory, n, k);
+        let sent = publish(&self.key, &mut ready, &self.inverse, &mut store, k);
+        let verdict = if store.bytes() == published {
+            "ok"
+        } else {
+            "DIFFERS"
+        };
+        println!(rt;
+            "{name}: {sent} columns published, public key of {} bytes {verdict}",
+            published.len()
+        )?;
+        Ok(())
+    }
 }
 
 // Publishes k columns; how many went through.
 fn publish(
-    card: &Card<'_>,
+    key: &SlotKey<'_>,
     ready: &mut Ready,
     inverse: &[u8],
-    key: &mut PackedKey<'_>,
+    store: &mut PackedKey<'_>,
     k: usize,
 ) -> usize {
-    let mut sent = 0usize;
-    for _ in 0..k {
-        let mut working = [0u8; 416];
-        if ready.publish(&card.key, inverse, &mut working, key).is_ok() {
-            sent = sent.saturating_add(1);
-        }
-    }
-    sent
-}
-
-fn finish(
-    rt: &HostRuntime,
-    name: &str,
-    card: &Card<'_>,
-    session: Open,
-    inverse: &[u8],
-    published: &[u8],
-) -> anyhow::Result<()> {
-    let Ok(mut ready) = session.close() else {
-        println!(rt; "{name}: not complete")?;
-        return Ok(());
-    };
-    let (n, k) = (card.key.slot.set.rows(), card.key.slot.set.rest());
-    let mut memory = vec![in rt.alloc(); 0u8; n.saturating_mul(bytes_for(k))]?;
-    let mut key = PackedKey::new(&mut memory, n, k);
-    let sent = publish(card, &mut ready, inverse, &mut key, k);
-    let verdict = if key.bytes() == published {
-        "ok"
-    } else {
-        "DIFFERS"
-    };
-    println!(rt;
-        "{name}: {sent} columns published, public key of {} bytes {verdict}",
-        published.len()
-    )?;
-    Ok(())
+    let mut working = [0u8; 416];
+    (0..k)
+        .filter(|_| { ready.publish(key, inverse, &mut working, store).is_ok() })
+        .count()
 }
 
 fn run_set(rt: &HostRuntime, name: &str) -> anyhow::Result<()> {
@@ -291,23 +233,25 @@ fn run_set(rt: &HostRuntime, name: &str) -> anyhow::Result<()> {
         return Ok(());
     }
     let n = slot.set.rows();
-    let dense = dense(heap, n)?;
-    let card = Card {
-        key: SlotKey { slot: &slot },
-        blinding: StoredMatrix::new(n, &dense),
+    let key = SlotKey { slot: &slot };
+    let rows = dense(heap, n)?;
+    let mut bench = Bench {
+        heap,
+        key,
+        blinding: StoredMatrix::new(n, &rows),
+        session: Open::new(&key),
+        inverse: vec![in heap; 0u8; n.saturating_mul(bytes_for(n))]?,
     };
-    let mut inverse = vec![in heap; 0u8; n.saturating_mul(bytes_for(n))]?;
-    let mut session = Open::new(&card.key);
-    let mut first = ask(heap, &card, &mut session, &mut inverse, n)?;
+    let mut first = bench.ask(n)?;
     println!(rt; "{name}: key loaded, {n} columns answered")?;
     let mut second = blank(heap, n)?;
     if !invert(&mut first, &mut second, n) {
         println!(rt; "{name}: no inverse")?;
         return Ok(());
     }
-    let taken = answer_rows(heap, &card, &mut session, &mut inverse, &second, n)?;
+    let taken = bench.send_rows(&second, n)?;
     println!(rt; "{name}: {taken} rows taken")?;
-    finish(rt, name, &card, session, &inverse, &published)
+    bench.finish(rt, name, &published)
 }
 
 fn main(rt: HostRuntime) -> anyhow::Result<()> {

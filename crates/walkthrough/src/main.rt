@@ -7,7 +7,6 @@ use goppa::slot::KeySlot;
 use key::Key;
 use operator::stored::StoredMatrix;
 use refusal::Fault;
-use session::fault::SessionFault;
 use session::state::{Open, Ready};
 use sink::Sink;
 use sink::key::PackedKey;
@@ -26,115 +25,125 @@ const SINGULAR: [u8; 8] = [0x02, 0x02, 0x04, 0x08, 0x10, 0x20, 0x40, 0x80];
 // The rows of the inverse of B, as a host finds them.
 const HOST_ROWS: [u8; 8] = [0x4e, 0x4a, 0x5d, 0x5a, 0xc7, 0xcb, 0x3a, 0x3b];
 
-// A frame, in the first bytes.
-#[derive(Clone, Copy)]
-struct Sent {
-    bytes: [u8; 4],
-    length: usize,
-}
-
+// Frames byte for byte, since wrong ones are sent too.
 // No frame at all, an unknown kind, a cut frame, a column too many, a row too early, a wrong row,
 // the zero combination, a combination that B does not send to zero.
-const WRONG: [Sent; 8] = [
-    Sent {
-        bytes: [0, 0, 0, 0],
-        length: 0,
-    },
-    Sent {
-        bytes: [0xff, 0, 0, 0],
-        length: 1,
-    },
-    Sent {
-        bytes: [0x11, 0, 0, 0],
-        length: 2,
-    },
-    Sent {
-        bytes: [0x11, 8, 0, 0],
-        length: 3,
-    },
-    Sent {
-        bytes: [0x12, 1, 0, 0x4a],
-        length: 4,
-    },
-    Sent {
-        bytes: [0x12, 0, 0, 0x4a],
-        length: 4,
-    },
-    Sent {
-        bytes: [0x13, 0, 0, 0],
-        length: 2,
-    },
-    Sent {
-        bytes: [0x13, 3, 0, 0],
-        length: 2,
-    },
+const WRONG: [&[u8]; 8] = [
+    &[],
+    &[0xff],
+    &[0x11, 0],
+    &[0x11, 8, 0],
+    &[0x12, 1, 0, 0x4a],
+    &[0x12, 0, 0, 0x4a],
+    &[0x13, 0],
+    &[0x13, 3],
 ];
 
 // The status, and a row after the last.
-const LATE: [Sent; 2] = [
-    Sent {
-        bytes: [0x14, 0, 0, 0],
-        length: 1,
-    },
-    Sent {
-        bytes: [0x12, 7, 0, 0x3b],
-        length: 4,
-    },
-];
+const LATE: [&[u8]; 2] = [&[0x14], &[0x12, 7, 0, 0x3b]];
 
 // Claims that B is singular: by nothing, by a wrong combination, by a right one; the status.
-const CLAIMS: [Sent; 4] = [
-    Sent {
-        bytes: [0x13, 0, 0, 0],
-        length: 2,
-    },
-    Sent {
-        bytes: [0x13, 1, 0, 0],
-        length: 2,
-    },
-    Sent {
-        bytes: [0x13, 3, 0, 0],
-        length: 2,
-    },
-    Sent {
-        bytes: [0x14, 0, 0, 0],
-        length: 1,
-    },
-];
+const CLAIMS: [&[u8]; 4] = [&[0x13, 0], &[0x13, 1], &[0x13, 3], &[0x14]];
 
-fn explain(rt: &HostRuntime, fault: SessionFault) -> io::Result<()> {
-    let words = Words {
-        refusal: fault.refusal(),
-    };
-    println!(rt; "      {words}")
+// A session under way, and what a card keeps beside it.
+#[derive(Drop)]
+struct Bench<'a> {
+    rt: &'a HostRuntime,
+    key: SlotKey<'a>,
+    blinding: StoredMatrix<'a>,
+    session: Open,
+    inverse: [u8; ROWS],
 }
 
-// One frame and its reply, in hexadecimal and in words.
-fn exchange(
-    rt: &HostRuntime,
-    key: &SlotKey<'_>,
-    blinding: &StoredMatrix<'_>,
-    session: &mut Open,
-    inverse: &mut [u8],
-    frame: &[u8],
-) -> io::Result<()> {
-    let mut working = [0u8; 2];
-    let mut memory = [0u8; 4];
-    let answer = session.answer(key, blinding, inverse, &mut working, frame, &mut memory);
-    let length = if answer.length <= memory.len() {
-        answer.length
-    } else {
-        0
-    };
-    let sent = Hex { bytes: frame };
-    let reply = Hex {
-        bytes: &memory[..length],
-    };
-    println!(rt; "    host {sent} | card {reply}")?;
-    match answer.fault {
-        Some(fault) => explain(rt, fault),
-        None => Ok(()),
+impl<'a> Bench<'a> {
+    fn new(rt: &'a HostRuntime, key: SlotKey<'a>, rows: &'a [u8]) -> Bench<'a> {
+        Bench {
+            rt,
+            key,
+            blinding: StoredMatrix::new(ROWS, rows),
+            session: Open::new(&key),
+            inverse: [0; ROWS],
+        }
     }
+
+    // One frame and its reply, in hexadecimal and in words.
+    fn exchange(&mut self, frame: &[u8]) -> io::Result<()> {
+        let mut working = [0u8; 2];
+        let mut memory = [0u8; 4];
+        let answer = self.session.answer(
+            &self.key,
+            &self.blinding,
+            &mut self.inverse,
+            &mut working,
+            frame,
+            &mut memory,
+        );
+        let sent = Hex { bytes: frame };
+        let reply = Hex {
+            bytes: &memory[..answer.length],
+        };
+        println!(self.rt; "    host {sent} | card {reply}")?;
+        match answer.fault {
+            Some(fault) => explain(self.rt, fault),
+            None => Ok(()),
+        }
+    }
+
+    fn ask_columns(&mut self) -> io::Result<()> {
+        println!(self.rt; "  The host asks the columns of B, blinding times check block:")?;
+        for j in 0..8u8 {
+            self.exchange(&[0x11, j, 0])?;
+        }
+        Ok(())
+    }
+
+    // Frames that are told one after another.
+    fn play(&mut self, frames: &[&[u8]]) -> io::Result<()> {
+        for frame in frames {
+            self.exchange(frame)?;
+        }
+        Ok(())
+    }
+
+    fn send_rows(&mut self) -> io::Result<()> {
+        println!(self.rt;
+            "  The rows of B's inverse; the card checks each and keeps it times the blinding:"
+        )?;
+        for (i, row) in (0u8..8).zip(HOST_ROWS) {
+            self.exchange(&[0x12, i, 0, row])?;
+        }
+        let kept = Hex {
+            bytes: &self.inverse,
+        };
+        println!(self.rt; "  Complete. The card holds the inverse of its check block, rows {kept}.")
+    }
+
+    // A closing that is refused hands the session back.
+    fn close_early(self) -> io::Result<Option<Bench<'a>>> {
+        match self.session.close() {
+            Ok(_) => Ok(None),
+            Err(still) => {
+                println!(self.rt; "  The session is not closed:")?;
+                explain(self.rt, still.fault)?;
+                Ok(Some(Bench {
+                    session: still.session,
+                    ..self
+                }))
+            }
+        }
+    }
+
+    // The last closing, and what is published after it.
+    fn close(self) -> io::Result<()> {
+        match self.session.close() {
+            Ok(ready) => publish(self.rt, &self.key, ready, &self.inverse),
+            Err(still) => explain(self.rt, still.fault),
+        }
+    }
+}
+
+fn explain<F: Fault>(rt: &HostRuntime, fault: F) -> io::Result<()> {
+    println!(rt; "      {}", Words::from(fault))
 }
 
 fn show_column(rt: &HostRuntime, key: &SlotKey<'_>, j: usize) -> io::Result<()> {
@@ -158,79 +167,11 @@ fn show_key(rt: &HostRuntime, key: &SlotKey<'_>) -> io::Result<()> {
     Ok(())
 }
 
-fn ask_columns(
-    rt: &HostRuntime,
-    key: &SlotKey<'_>,
-    blinding: &StoredMatrix<'_>,
-    session: &mut Open,
-    inverse: &mut [u8],
-) -> io::Result<()> {
-    println!(rt; "  The host asks the columns of B, blinding times check block:")?;
-    for j in 0..8u8 {
-        exchange(rt, key, blinding, session, inverse, &[0x11, j, 0])?;
-    }
-    Ok(())
-}
-
-// Frames that are told one after another.
-fn play(
-    rt: &HostRuntime,
-    key: &SlotKey<'_>,
-    blinding: &StoredMatrix<'_>,
-    session: &mut Open,
-    inverse: &mut [u8],
-    frames: &[Sent],
-) -> io::Result<()> {
-    for sent in frames {
-        if let Some(frame) = sent.bytes.get(..sent.length) {
-            exchange(rt, key, blinding, session, inverse, frame)?;
-        }
-    }
-    Ok(())
-}
-
-fn send_rows(
-    rt: &HostRuntime,
-    key: &SlotKey<'_>,
-    blinding: &StoredMatrix<'_>,
-    session: &mut Open,
-    inverse: &mut [u8],
-) -> io::Result<()> {
-    println!(rt;
-        "  The rows of B's inverse; the card checks each and keeps it times the blinding:"
-    )?;
-    for i in 0..8u8 {
-        exchange(
-            rt,
-            key,
-            blinding,
-            session,
-            inverse,
-            &[0x12, i, 0, HOST_ROWS[i as usize]],
-        )?;
-    }
-    let kept = Hex { bytes: inverse };
-    println!(rt; "  Complete. The card holds the inverse of its check block, rows {kept}.")
-}
-
-fn publish_one(
-    rt: &HostRuntime,
-    key: &SlotKey<'_>,
-    ready: &mut Ready,
-    inverse: &[u8],
-    store: &mut PackedKey<'_>,
-    c: usize,
-) -> io::Result<()> {
-    let mut working = [0u8; 2];
-    match ready.publish(key, inverse, &mut working, store) {
-        Err(fault) => explain(rt, fault),
-        Ok(()) => {
-            let mut column = [0u8; 1];
-            let _ = store.read(c, &mut column);
-            let column = Hex { bytes: &column };
-            println!(rt; "    public column {c}: {column}")
-        }
-    }
+fn show_public(rt: &HostRuntime, store: &PackedKey<'_>, c: usize) -> io::Result<()> {
+    let mut column = [0u8; 1];
+    let _ = store.read(c, &mut column);
+    let column = Hex { bytes: &column };
+    println!(rt; "    public column {c}: {column}")
 }
 
 fn publish(
@@ -242,8 +183,12 @@ fn publish(
     println!(rt; "  The ready session publishes column by column, until there is no more:")?;
     let mut memory = [0u8; ROWS];
     let mut store = PackedKey::new(&mut memory, ROWS, REST);
-    for c in 0..REST + 1 {
-        publish_one(rt, key, &mut ready, inverse, &mut store, c)?;
+    for c in 0..=REST {
+        let mut working = [0u8; 2];
+        match ready.publish(key, inverse, &mut working, &mut store) {
+            Ok(()) => show_public(rt, &store, c)?,
+            Err(fault) => explain(rt, fault)?,
+        }
     }
     show_packed(rt, store.bytes())
 }
@@ -253,64 +198,32 @@ fn show_packed(rt: &HostRuntime, bytes: &[u8]) -> io::Result<()> {
     println!(rt; "  The packed public key, row after row: {packed}")
 }
 
-// A closing that is refused hands the session back.
-fn close_early(rt: &HostRuntime, session: Open) -> io::Result<Option<Open>> {
-    match session.close() {
-        Ok(_) => Ok(None),
-        Err(still) => {
-            println!(rt; "  The session is not closed:")?;
-            explain(rt, still.fault)?;
-            Ok(Some(still.session))
-        }
-    }
-}
-
-// The frames of a whole session, up to the complete phase.
-fn receive(
-    rt: &HostRuntime,
-    key: &SlotKey<'_>,
-    blinding: &StoredMatrix<'_>,
-    inverse: &mut [u8],
-) -> io::Result<Option<Open>> {
-    let mut session = Open::new(key);
-    ask_columns(rt, key, blinding, &mut session, inverse)?;
-    println!(rt; "  A host that errs or lies: each frame is refused, and changes nothing:")?;
-    play(rt, key, blinding, &mut session, inverse, &WRONG)?;
-    let Some(mut session) = close_early(rt, session)? else {
-        return Ok(None);
-    };
-    send_rows(rt, key, blinding, &mut session, inverse)?;
-    println!(rt; "  The status, and a row that comes too late:")?;
-    play(rt, key, blinding, &mut session, inverse, &LATE)?;
-    Ok(Some(session))
-}
-
-fn complete_session(rt: &HostRuntime, key: &SlotKey<'_>) -> io::Result<()> {
+fn complete_session(rt: &HostRuntime, key: SlotKey<'_>) -> io::Result<()> {
     let rows = Hex { bytes: &BLINDING };
     println!(rt; "\nA session with blinding rows {rows}.")?;
-    let blinding = StoredMatrix::new(ROWS, &BLINDING);
-    let mut inverse = [0u8; ROWS];
-    let Some(session) = receive(rt, key, &blinding, &mut inverse)? else {
+    let mut bench = Bench::new(rt, key, &BLINDING);
+    bench.ask_columns()?;
+    println!(rt; "  A host that errs or lies: each frame is refused, and changes nothing:")?;
+    bench.play(&WRONG)?;
+    let Some(mut bench) = bench.close_early()? else {
         return Ok(());
     };
-    match session.close() {
-        Ok(ready) => publish(rt, key, ready, &inverse),
-        Err(still) => explain(rt, still.fault),
-    }
+    bench.send_rows()?;
+    println!(rt; "  The status, and a row that comes too late:")?;
+    bench.play(&LATE)?;
+    bench.close()
 }
 
-fn singular_session(rt: &HostRuntime, key: &SlotKey<'_>) -> io::Result<()> {
+fn singular_session(rt: &HostRuntime, key: SlotKey<'_>) -> io::Result<()> {
     let rows = Hex { bytes: &SINGULAR };
     println!(rt; "\nA session with blinding rows {rows}, two of them equal.")?;
-    let blinding = StoredMatrix::new(ROWS, &SINGULAR);
-    let mut inverse = [0u8; ROWS];
-    let mut session = Open::new(key);
-    ask_columns(rt, key, &blinding, &mut session, &mut inverse)?;
+    let mut bench = Bench::new(rt, key, &SINGULAR);
+    bench.ask_columns()?;
     println!(rt;
         "  The host claims that B has no inverse; the card believes a nonzero v with v B = 0 only:"
     )?;
-    play(rt, key, &blinding, &mut session, &mut inverse, &CLAIMS)?;
-    let _ = close_early(rt, session)?;
+    bench.play(&CLAIMS)?;
+    let _ = bench.close_early()?;
     Ok(())
 }
 
@@ -318,6 +231,6 @@ fn main(rt: HostRuntime) -> io::Result<()> {
     let slot = KeySlot::new();
     let key = SlotKey { slot: &slot };
     show_key(&rt, &key)?;
-    complete_session(&rt, &key)?;
-    singular_session(&rt, &key)
+    complete_session(&rt, key)?;
+    singular_session(&rt, key)
 }

@@ -2,10 +2,13 @@
 // It promises nothing but text; what a refusal means is fixed by the layer that makes it.
 #![tactic(auto)]
 
+ghost use Rattle.std.specs.Prelude.{◌≡◌};
+
+use refusal::Fault;
 use refusal::told::{Layer, Refusal};
 use std::fmt;
 
-// Bytes in hexadecimal, two digits each, with a space between.
+// Bytes in hexadecimal, two digits each, with a space between; the field names what is shown.
 #[derive(Drop)]
 pub struct Hex<'a> {
     pub bytes: &'a [u8],
@@ -15,14 +18,14 @@ impl fmt::Display for Hex<'_> {
     fn fmt<W: fmt::Write>(&self, f: &mut fmt::Formatter<W>) -> fmt::Result {
         let mut gap = "";
         for byte in self.bytes {
-            let b = *byte;
-            write!(f, "{gap}{b:02X}")?;
+            write!(f, "{gap}{byte:02X}")?;
             gap = " ";
         }
         Ok(())
     }
 }
 
+// A Display of Layer would stand in crate refusal, which the card carries too.
 fn layer_name(layer: Layer) -> &'static str {
     match layer {
         Layer::Sets => "parameter sets",
@@ -36,7 +39,7 @@ fn layer_name(layer: Layer) -> &'static str {
     }
 }
 
-// What a number means, up to the sessions; the others are in `meaning_above`.
+// The numbers as docs/REFUSALS.md lists them: of a refusal no more than the number is kept.
 fn meaning(number: u8) -> &'static str {
     match number {
         1 => "no parameter set has this name",
@@ -55,12 +58,6 @@ fn meaning(number: u8) -> &'static str {
         14 => "the frame is empty or its kind unknown",
         15 => "the frame has a wrong length",
         16 => "the session no longer takes such a frame",
-        _ => meaning_above(number),
-    }
-}
-
-fn meaning_above(number: u8) -> &'static str {
-    match number {
         17 => "there is no such column",
         18 => "another row comes next",
         19 => "the row times B is not the unit row",
@@ -87,12 +84,24 @@ pub struct Words {
     pub refusal: Refusal,
 }
 
+impl<F: Fault> From<F> for Words {
+    ghost from_gives = { λ fault r. r.refusal ≡ F.told fault };
+
+    fn from(fault: F) -> Words {
+        Words {
+            refusal: fault.refusal(),
+        }
+    }
+}
+
 impl fmt::Display for Words {
     fn fmt<W: fmt::Write>(&self, f: &mut fmt::Formatter<W>) -> fmt::Result {
-        let layer = layer_name(self.refusal.layer);
-        let number = self.refusal.number;
-        let place = self.refusal.place;
-        let words = meaning(number);
+        let Refusal {
+            layer,
+            number,
+            place,
+        } = self.refusal;
+        let (layer, words) = (layer_name(layer), meaning(number));
         write!(f, "refused by {number} at place {place} ({layer}): {words}")
     }
 }

@@ -1,11 +1,7 @@
-use Rattle.std.proofs.Common.{◌%◌, ◌^◌, ◌<◌, ◌≤◌, sym, ap, arith, pow_mono, rules}
+use Rattle.std.proofs.Common.{◌%◌, ◌^◌, ◌<◌, ◌≤◌, sym, ap, arith, pow_mono}
 use native.Mathlib.Nat.{div-eq_of_lt}
 use Rattle.bits.specs.Bits.{bit_of}
 use Rattle.bits.proofs.bit_of.Goals as goal
-
-pub returns-then-k-lt8 : goal.returns-then-k-lt8
-unfolding bit_of
-returns-then-k-lt8 c = search rules
 
 pub returns-else-k-lt8 : goal.returns-else-k-lt8
 unfolding bit_of

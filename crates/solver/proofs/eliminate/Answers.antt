@@ -1,26 +1,49 @@
-use Rattle.std.proofs.Common.{sym}
-use Rattle.solver.specs.Cells.{entries}
+use Rattle.std.proofs.Common.{sym, ◌∙◌, subst, rules}
+use Rattle.matrix.specs.Steps.{State}
 use Rattle.matrix.proofs.Elim.{start}
+use Rattle.solver.specs.Answers.{TheInverse, Vanishing}
+use Rattle.solver.specs.Cells.{entries}
+use Rattle.solver.specs.Squares.{matrix}
 use Rattle.solver.proofs.Grid.{entries-elements}
 use Rattle.solver.proofs.Joins.{whole-at-end, short-at-end}
 use Rattle.solver.proofs.eliminate.Goals as goal
 
-pub returns : goal.returns
-returns g c =
+pub returns-then-rank-n-clause-solves : goal.returns-then-rank-n-clause-solves
+returns-then-rank-n-clause-solves g c =
     let f = g.F.Field in
     let n = c.args.n in
-    let E = entries f.width f.number n in
-    let M = E c.args.first.now in
-    let X = E c.do_columns.new.first in
-    let Y = E c.do_columns.new.second in
-    let hm = entries-elements f.width f.number f.arith n c.args.first.now g.met.F.Field.wide in
-    let hy = entries-elements f.width f.number f.arith n c.do_columns.new.second g.met.F.Field.wide in
-    let end = c.do_columns.ensures.state M
-    (start f.arith n M (E c.make_clean.new.cells) (E c.make_identity.new.cells) hm
-    (λ i j hi hj. sym (c.make_clean.ensures.made n i j))
-    (λ i j hi hj. sym (c.make_identity.ensures.made i j hi hj))) in
-    record {
-      whole = whole-at-end f.arith n M X Y c.do_columns.result hm hy end;
-      short = short-at-end f.arith n M X Y c.do_columns.result hm hy end;
-      clean = (c.do_columns.ensures.first c.make_clean.ensures.clean, c.do_columns.ensures.second c.make_identity.ensures.clean);
-    }
+    let M = entries f.WIDTH f.number n c.args.first.now in
+    let t = c.do_columns-rank.new.self.first.now in
+    let u = c.do_columns-rank.new.self.second.now in
+    let X = matrix c.cleaned-table.result in
+    let Y = matrix c.identity-inverse.result in
+    let rank = c.do_columns-rank.result in
+    let o = c.cleaned-table.ensures.place.0 in
+    let hm = entries-elements f.WIDTH f.number f.arith n c.args.first.now g.met.F.Field.wide in
+    let hu = entries-elements f.WIDTH f.number f.arith u.order u.cells.now g.met.F.Field.wide in
+    let begun = start f.arith n M X Y hm (λ i j _ _. sym (c.cleaned-table.ensures.made i j)) (λ i j hi hj. sym (c.identity-inverse.ensures.made i j hi hj)) in
+    let reached = c.do_columns-rank.ensures.state M (subst (λ k. State f.arith k M X Y 0 0) (sym o) begun) in
+    let ended = subst (λ k. State f.arith k M (matrix t) (matrix u) n rank) (c.do_columns-rank.ensures.place.0.0 ∙ o) (subst (λ k. State f.arith t.order M (matrix t) (matrix u) k rank) o reached) in
+    let there = subst (λ k. Vanishing f.arith n M (entries f.WIDTH f.number k u.cells.now) rank) (c.do_columns-rank.ensures.place.1.0 ∙ c.identity-inverse.ensures.place.0)
+    (short-at-end f.arith n M (matrix t) (matrix u) rank hm hu ended c.if-rank-n.true) in
+    subst (λ l. Vanishing f.arith n M (entries f.WIDTH f.number n l) rank) (search rules) there
+
+pub returns-else-rank-n-clause-solves : goal.returns-else-rank-n-clause-solves
+returns-else-rank-n-clause-solves g c =
+    let f = g.F.Field in
+    let n = c.args.n in
+    let M = entries f.WIDTH f.number n c.args.first.now in
+    let t = c.do_columns-rank.new.self.first.now in
+    let u = c.do_columns-rank.new.self.second.now in
+    let X = matrix c.cleaned-table.result in
+    let Y = matrix c.identity-inverse.result in
+    let rank = c.do_columns-rank.result in
+    let o = c.cleaned-table.ensures.place.0 in
+    let hm = entries-elements f.WIDTH f.number f.arith n c.args.first.now g.met.F.Field.wide in
+    let hu = entries-elements f.WIDTH f.number f.arith u.order u.cells.now g.met.F.Field.wide in
+    let begun = start f.arith n M X Y hm (λ i j _ _. sym (c.cleaned-table.ensures.made i j)) (λ i j hi hj. sym (c.identity-inverse.ensures.made i j hi hj)) in
+    let reached = c.do_columns-rank.ensures.state M (subst (λ k. State f.arith k M X Y 0 0) (sym o) begun) in
+    let ended = subst (λ k. State f.arith k M (matrix t) (matrix u) n rank) (c.do_columns-rank.ensures.place.0.0 ∙ o) (subst (λ k. State f.arith t.order M (matrix t) (matrix u) k rank) o reached) in
+    let there = subst (λ k. TheInverse f.arith n M (entries f.WIDTH f.number k u.cells.now)) (c.do_columns-rank.ensures.place.1.0 ∙ c.identity-inverse.ensures.place.0)
+    (whole-at-end f.arith n M (matrix t) (matrix u) rank hm hu ended c.if-rank-n.false) in
+    subst (λ l. TheInverse f.arith n M (entries f.WIDTH f.number n l)) (search rules) there

@@ -7,7 +7,7 @@ use Rattle.solver.proofs.make_clean.Goals as goal
 pub loop-x-preserved : goal.loop-x-preserved
 loop-x-preserved g c =
     let f = g.F.Field in
-    let w = f.width in
+    let w = f.WIDTH in
     let k = c.loop-x.x-index in
     let lt : k < length c.loop-x.cells = omega arith in (
       map-low w f.number c.loop-x.cells k _ c.of.result lt (c.of.ensures ∙ ap (λ v. v % 2 ^ w) c.get.ensures) ∙ c.loop-x.invariant.0,
@@ -22,6 +22,6 @@ pub returns : goal.returns
 returns g c =
     let f = g.F.Field in
     record {
-      made = λ n i j. entries-map f.width f.number n c.loop-x.cells c.args.cells.now c.loop-x.invariant.0 i j;
+      made = λ n i j. entries-map f.WIDTH f.number n c.loop-x.cells c.args.cells.now c.loop-x.invariant.0 i j;
       clean = λ k d h. c.loop-x.invariant.1 k d (omega arith);
     }

@@ -3,17 +3,17 @@ use lib.Bits.{bit_xor}
 use Rattle.block.proofs.Words.{scaled-none, scaled-more}
 use Rattle.block.proofs.column.add_powers.Goals as goal
 
-pub loop-i-init : goal.loop-i-init
-loop-i-init g c =
-    (λ k h. absurd (omega arith), λ k h. refl, scaled-none g.F.Field.width g.F.Field.reducer c.args.x c.args.y)
+pub loop-word-init : goal.loop-word-init
+loop-word-init g c =
+    (λ k h. absurd (omega arith), λ k h. refl, scaled-none g.F.Field.WIDTH g.F.Field.REDUCER c.args.x c.args.y)
 
-pub loop-i-preserved : goal.loop-i-preserved
-loop-i-preserved g c =
-    let i = c.loop-i.i in
-    let lt : i < length c.loop-i.words = omega arith in (
+pub loop-word-preserved : goal.loop-word-preserved
+loop-word-preserved g c =
+    let i = c.loop-word.word-index in
+    let lt : i < length c.loop-word.words = omega arith in (
       below_more _ _
-          (λ k h. let ne : k ≢ i = omega arith in rw get_or-set_other (c.loop-i.invariant.0 k h))
-          (rw get_or-set_same (ap₂ bit_xor (c.loop-i.invariant.1 i (omega arith)) c.loop-i.invariant.2)),
-      λ k h. let ne : k ≢ i = omega arith in rw get_or-set_other (c.loop-i.invariant.1 k (omega arith)),
-      c.mul-power.ensures ∙ scaled-more g.F.Field.width g.F.Field.reducer c.args.x c.args.y i c.loop-i.power c.loop-i.invariant.2,
+          (λ k h. let ne : k ≢ i = omega arith in rw get_or-set_other (c.loop-word.invariant.0 k h))
+          (rw get_or-set_same (ap₂ bit_xor (c.loop-word.invariant.1 i (omega arith)) c.loop-word.invariant.2)),
+      λ k h. let ne : k ≢ i = omega arith in rw get_or-set_other (c.loop-word.invariant.1 k (omega arith)),
+      c.mul-power.ensures ∙ scaled-more g.F.Field.WIDTH g.F.Field.REDUCER c.args.x c.args.y i c.loop-word.power c.loop-word.invariant.2,
     )

@@ -3,9 +3,9 @@ use lib.Bits.{bit_xor}
 use Rattle.block.specs.Lanes.{scaled}
 use Rattle.block.proofs.column.add_powers.Given as goal
 
-abbrev pub invariant-loop-i : goal.invariant-loop-i
-invariant-loop-i g l =
+abbrev pub invariant-loop-word : goal.invariant-loop-word
+invariant-loop-word g l =
     let f = g.F.Field in
-    ((k : ℕ) → k < l.i → get_or l.words k 0 ≡ bit_xor (get_or l.initial.words k 0) (scaled f.width f.reducer l.x l.y k))
-    × ((k : ℕ) → l.i ≤ k → get_or l.words k 0 ≡ get_or l.initial.words k 0)
-    × (l.power ≡ scaled f.width f.reducer l.x l.y l.i)
+    ((k : ℕ) → k < l.word-index → get_or l.words k 0 ≡ bit_xor (get_or l.initial.words k 0) (scaled f.WIDTH f.REDUCER l.x l.y k))
+    × ((k : ℕ) → l.word-index ≤ k → get_or l.words k 0 ≡ get_or l.initial.words k 0)
+    × (l.power ≡ scaled f.WIDTH f.REDUCER l.x l.y l.word-index)

@@ -4,6 +4,5 @@ use Rattle.block.specs.Lanes.{odd}
 use Rattle.block.proofs.Words.{odd-zero}
 use Rattle.block.proofs.row.ParitiesBitSource.bit.Goals as goal
 
-pub returns-else-i-self : goal.returns-else-i-self
-returns-else-i-self c =
-    record { value = sym (ap odd (get_or_past c.args.self.now.words.now c.args.i 0 (omega arith)) ∙ odd-zero); small = omega arith }
+pub returns-else-i-self-clause-value : goal.returns-else-i-self-clause-value
+returns-else-i-self-clause-value c = sym (ap odd (get_or_past c.args.self.now.words.now c.args.i 0 (omega arith)) ∙ odd-zero)

@@ -1,7 +1,0 @@
-use Rattle.std.proofs.Common.{◌≡◌, ℕ, ◌*◌, ◌<◌, false, not, eqb}
-use Rattle.matrix.specs.Matrix.{delta}
-use Rattle.bits.specs.Bits.{bits_of}
-use Rattle.bits.proofs.first_wrong.Given as goal
-
-abbrev pub invariant-loop-j : goal.invariant-loop-j
-invariant-loop-j l = (k : ℕ) → k < 8 * l.j → not (eqb (bits_of l.v k) (delta l.i k)) ≡ false

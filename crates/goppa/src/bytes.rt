@@ -1,0 +1,165 @@
+ghost use Rattle.std.specs.Prelude.{◌≡◌, ℕ, ◌+◌, ◌*◌, ◌/◌, ◌<◌, ◌≤◌, length, ◌==◌, bit_xor, slice_index};
+ghost use Rattle.matrix.specs.Matrix.{delta};
+ghost use Rattle.matrix.specs.Search.{found};
+ghost use Rattle.params.specs.Sets.{numbers};
+ghost use Rattle.goppa.specs.Checks.{value};
+ghost use Rattle.goppa.specs.Keys.{Elements};
+ghost use Rattle.goppa.specs.Marks.{marked};
+ghost use Rattle.goppa.specs.Loading.{entry_in, support_in, large_in, repeated_in, root_in, InversesIn};
+
+mod load;
+
+use crate::over_field;
+use field::Field;
+use params::set::ParameterSet;
+
+// The bytes of a key of the set: as many as it has.
+#[derive(Clone, Copy)]
+struct KeyBytes<'a> {
+    set: ParameterSet,
+    bytes: &'a [u8],
+    ghost whole: { length bytes.now ≡ 2 * (set.t + set.n) },
+}
+
+// The same, where every entry is an element of the field.
+#[derive(Clone, Copy)]
+struct KeyElements<'a> {
+    key: KeyBytes<'a>,
+    ghost small: { Elements key.set.m (key.set.t + key.set.n) (entry_in key.bytes.now) },
+}
+
+impl KeyBytes<'_> {
+    fn entry(&self, k: usize) -> u16
+        requires { k < self.now.set.t + self.now.set.n }
+        ensures { result ≡ entry_in self.now.bytes.now k }
+    {
+        u16::from_le_bytes([self.bytes[2 * k], self.bytes[2 * k + 1]])
+    }
+
+    // The first entry that is 2^m or more.
+    fn first_large(&self) -> Option<usize>
+        ensures { result ≡ found (self.now.set.t + self.now.set.n) (large_in (numbers self.now.set) self.now.bytes.now) }
+    {
+        (0..self.set.t + self.set.n).find(|&k| self.entry(k) >= 1 << self.set.m)
+    }
+
+    // Writes count entries from the entry at on, and 0 past them: nothing of an older key stays.
+    fn write_entries(&self, at: usize, count: usize, out: &mut [u16])
+        requires { at + count ≤ self.now.set.t + self.now.set.n }
+        ensures { (k : ℕ) → k < length out.old → k < count → slice_index out.new k ≡ entry_in self.now.bytes.now (at + k) }
+    {
+        for (k, x) in out.iter_mut().enumerate() {
+            *x = if k < count { self.entry(at + k) } else { 0 };
+        }
+    }
+}
+
+fn is_marked(map: &[u8], x: usize) -> bool
+    requires { x / 8 < length map.now }
+    ensures { result ≡ (marked map.now x == 1) }
+{
+    (map[x / 8] >> (x % 8)) & 1 == 1
+}
+
+fn flip_mark(map: &mut [u8], x: usize)
+    requires { x / 8 < length map.old }
+    ensures { (y : ℕ) → marked map.new y ≡ bit_xor (marked map.old y) (delta x y) }
+{
+    map[x / 8] ^= 1 << (x % 8);
+}
+
+impl KeyElements<'_> {
+    // Entry j of the support.
+    fn point(&self, j: usize) -> u16
+        requires { j < self.now.key.set.n }
+        ensures { result ≡ support_in self.now.key.set.t self.now.key.bytes.now j }
+    {
+        self.key.entry(self.key.set.t + j)
+    }
+
+    // The first place in the support whose entry stands before it too. Marks what it has seen.
+    fn find_repeat(&self, map: &mut [u8]) -> Option<usize>
+        requires room { length map.old ≡ 1024 }
+        requires clear { (x : ℕ) → marked map.old x ≡ 0 }
+        ensures { result ≡ found self.now.key.set.n (repeated_in (numbers self.now.key.set) self.now.key.bytes.now) }
+    {
+        // a loop, since each step also marks what it saw
+        for j in 0..self.key.set.n {
+            let x = self.point(j) as usize;
+            if is_marked(map, x) {
+                return Some(j);
+            }
+            flip_mark(map, x);
+        }
+        None
+    }
+
+    // The first place in the support whose entry stands before it too.
+    fn first_repeat(&self) -> Option<usize>
+        ensures { result ≡ found self.now.key.set.n (repeated_in (numbers self.now.key.set) self.now.key.bytes.now) }
+    {
+        let mut map = [0u8; 1024];
+        let at = self.find_repeat(&mut map);
+        // the map tells of the support
+        map.fill(0);
+        at
+    }
+
+    // g(x), from the last coefficient to the first.
+    fn value_at<F: Field>(&self, x: u16) -> u16
+        requires { (F.WIDTH ≡ self.now.key.set.m) × (F.REDUCER ≡ self.now.key.set.f) }
+        ensures { result ≡ value self.now.key.set.m self.now.key.set.f self.now.key.set.t (entry_in self.now.key.bytes.now) x }
+    {
+        let mut r: u16 = 1;
+        // a loop: the closure of a fold would need its contract written out
+        for i in (0..self.key.set.t).rev() {
+            r = F::mul(x, r) ^ self.key.entry(i);
+        }
+        r
+    }
+
+    // Whether g is 0 at entry j of the support.
+    fn is_root<F: Field>(&self, j: usize) -> bool
+        requires field { (F.WIDTH ≡ self.now.key.set.m) × (F.REDUCER ≡ self.now.key.set.f) }
+        requires within { j < self.now.key.set.n }
+        ensures { result ≡ root_in (numbers self.now.key.set) self.now.key.bytes.now j }
+    {
+        self.value_at::<F>(self.point(j)) == 0
+    }
+
+    // The first place in the support where g is 0.
+    fn first_root(&self) -> Option<usize>
+        ensures { result ≡ found self.now.key.set.n (root_in (numbers self.now.key.set) self.now.key.bytes.now) }
+    {
+        over_field!(self.key.set, find_root(self))
+    }
+
+    // Writes 1 / g at each entry of the support, and 0 past them: nothing of an older key stays.
+    fn write_inverses(&self, out: &mut [u16])
+        requires { self.now.key.set.n ≤ length out.old }
+        ensures { InversesIn (numbers self.now.key.set) self.now.key.bytes.now (λ j. slice_index out.new j) }
+    {
+        over_field!(self.key.set, invert_values(self, out))
+    }
+}
+
+fn find_root<F: Field>(elements: &KeyElements) -> Option<usize>
+    requires { (F.WIDTH ≡ elements.now.key.set.m) × (F.REDUCER ≡ elements.now.key.set.f) }
+    ensures { result ≡ found elements.now.key.set.n (root_in (numbers elements.now.key.set) elements.now.key.bytes.now) }
+{
+    (0..elements.key.set.n).find(|&j| elements.is_root::<F>(j))
+}
+
+fn invert_values<F: Field>(elements: &KeyElements, out: &mut [u16])
+    requires field { (F.WIDTH ≡ elements.now.key.set.m) × (F.REDUCER ≡ elements.now.key.set.f) }
+    requires room { elements.now.key.set.n ≤ length out.old }
+    ensures { InversesIn (numbers elements.now.key.set) elements.now.key.bytes.now (λ j. slice_index out.new j) }
+{
+    for (j, y) in out.iter_mut().enumerate() {
+        *y = if j < elements.key.set.n {
+            F::invert(elements.value_at::<F>(elements.point(j)))
+        } else {
+            0
+        };
+    }
+}
