@@ -107,7 +107,7 @@ pub fn xor_row(rows: &[u8], at: usize, out: &mut [u8])
     ensures { (j : ℕ) → j < length out.new → slice_index out.new j ≡ bit_xor (slice_index out.old j) (slice_index rows.now (at + j)) }
 {
     let row = first(rest(rows, at), out.len());
-    // By index: of what an adapter of `iter_mut` wrote a proof knows nothing.
+    // By place: after a loop over `iter_mut().zip(..)` a proof knows nothing of what was written.
     for (j, x) in row.iter().enumerate() {
         out[j] ^= *x;
     }

@@ -5,11 +5,11 @@ ghost use Rattle.matrix.specs.Matrix.{apply};
 ghost use Rattle.bits.specs.Bits.{bits_of, bytes_for, pack};
 ghost use Rattle.operator.specs.Actions.{ColumnAction};
 ghost use Rattle.key.specs.Columns.{ColumnGiven};
-ghost use Rattle.guard.specs.Zero.{AllZero};
 ghost use Rattle.goppa.specs.Loading.{check_matrix};
 ghost use Rattle.block.specs.Lanes.{scaled, stacked};
 ghost use Rattle.block.specs.Slots.{rows_of, sizes_of, column_word};
 
+use super::LentWords;
 use bits::source::{BitSource, write_bits};
 use bits::{bytes_for, get_bit};
 use field::Field;
@@ -38,86 +38,49 @@ fn add_powers_in(set: ParameterSet, x: u16, y: u16, words: &mut [u16])
     over_field!(set, add_powers(x, y, words))
 }
 
-// Adds the words of column j.
-fn add_column(slot: &KeySlot, j: usize, words: &mut [u16])
-    requires { j < slot.now.set.n }
-    ensures { (i : ℕ) → i < length words.old → slice_index words.new i ≡ bit_xor (slice_index words.old i) (column_word slot.now j i) }
-{
-    add_powers_in(slot.set, slot.support[j], slot.inverses[j], words)
+impl LentWords<'_, '_> {
+    // Adds the words of column j.
+    fn add_column(&mut self, j: usize)
+        requires { j < self.old.slot.now.set.n }
+        ensures slot { self.new.slot.now ≡ self.old.slot.now }
+        ensures words { (i : ℕ) → i < length self.old.words.now → slice_index self.new.words.now i ≡ bit_xor (slice_index self.old.words.now i) (column_word self.old.slot.now j i) }
+    {
+        let slot = self.slot;
+        add_powers_in(slot.set, slot.support[j], slot.inverses[j], self.words)
+    }
 }
 
-// The bits of words, m of each, one word after another.
-#[derive(Clone, Copy)]
-struct Stacked<'a> {
-    m: usize,
-    words: &'a [u16],
-    ghost some: { 0 < m },
-    ghost narrow: { m ≤ 15 },
-}
-
-impl BitSource for Stacked<'_> {
-    ghost vector = { λ s. stacked s.m s.words.now };
+// The bits of the words, m of each, one word after another.
+impl BitSource for LentWords<'_, '_> {
+    ghost vector = { λ s. stacked s.slot.now.set.m s.words.now };
 
     fn bit(&self, i: usize) -> u8 {
-        let at = i / self.m;
+        // a u32 in the set, as Rust counts bits (u16::BITS)
+        let m = self.slot.set.m as usize;
+        let at = i / m;
         if at < self.words.len() {
-            ((self.words[at] >> (i % self.m)) % 2) as u8
+            ((self.words[at] >> (i % m)) % 2) as u8
         } else {
             0
         }
     }
 }
 
-// Writes the words of the set's m bits.
-fn write_words(set: ParameterSet, words: &[u16], out: &mut [u8])
-    requires room { length out.old ≡ bytes_for (set.m * set.t) }
-    ensures { out.new ≡ pack (set.m * set.t) (stacked set.m words.now) }
-{
-    let m = set.m as usize;
-    write_bits(&Stacked { m, words }, set.rows(), out)
-}
-
-// Writes the sum of the columns that v chooses; words is memory for it, and then clear. (Here and below
-// each function asks for the lengths: a struct cannot vouch for memory that it lends on.)
-fn write_sum(slot: &KeySlot, v: &[u8], words: &mut [u16], out: &mut [u8])
-    requires words { length words.old ≡ slot.now.set.t }
-    requires room { length out.old ≡ bytes_for (rows_of slot.now) }
-    ensures written { out.new ≡ pack (rows_of slot.now) (apply two (rows_of slot.now) (check_matrix slot.now) (bits_of v.now)) }
-    ensures clear { AllZero words.new }
-{
-    words.fill(0);
-    // by number: a vector's bits are no slice
-    for j in 0..slot.set.rows() {
-        if get_bit(v, j) == 1 {
-            add_column(slot, j, words);
-        }
-    }
-    write_words(slot.set, words, out);
-    words.fill(0);
-}
-
+// Of one shape with row_action: two actions of one trait, each with its own work.
 pub(crate) fn column_action(slot: &KeySlot, v: &[u8], out: &mut [u8]) -> Result<(), OperatorFault>
     ensures { ColumnAction (rows_of slot.now) (check_matrix slot.now) v.now out.old out.new result }
 {
     check_lengths(slot.set.rows(), v, out)?;
-    let mut words = [0u16; 128];
-    let t = slot.set.t;
-    write_sum(slot, v, &mut words[0..t], out);
+    let mut memory = [0u16; 128];
+    let mut sum = LentWords::new(slot, &mut memory[..slot.set.t]);
+    // by number: a vector's bits are no slice
+    for j in 0..slot.set.rows() {
+        if get_bit(v, j) == 1 {
+            sum.add_column(j);
+        }
+    }
+    write_bits(&sum, slot.set.rows(), out);
     Ok(())
-}
-
-// Writes column j; words is memory for it, and then clear.
-fn write_column(slot: &KeySlot, j: usize, words: &mut [u16], out: &mut [u8])
-    requires index { j < slot.now.set.n }
-    requires words { length words.old ≡ slot.now.set.t }
-    requires room { length out.old ≡ bytes_for (rows_of slot.now) }
-    ensures written { out.new ≡ pack (rows_of slot.now) (λ r. check_matrix slot.now r j) }
-    ensures clear { AllZero words.new }
-{
-    words.fill(0);
-    add_column(slot, j, words);
-    write_words(slot.set, words, out);
-    words.fill(0);
 }
 
 pub(crate) fn column(slot: &KeySlot, j: usize, out: &mut [u8]) -> Result<(), ColumnFault>
@@ -130,8 +93,9 @@ pub(crate) fn column(slot: &KeySlot, j: usize, out: &mut [u8]) -> Result<(), Col
     if j >= set.n {
         return Err(ColumnFault::Index(j));
     }
-    let mut words = [0u16; 128];
-    let t = set.t;
-    write_column(slot, j, &mut words[0..t], out);
+    let mut memory = [0u16; 128];
+    let mut column = LentWords::new(slot, &mut memory[..set.t]);
+    column.add_column(j);
+    write_bits(&column, set.rows(), out);
     Ok(())
 }

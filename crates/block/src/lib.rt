@@ -3,6 +3,8 @@
 // or a refusal that writes nothing. Loading keys and joining operators is left to other crates.
 #![tactic(auto)]
 
+ghost use Rattle.std.specs.Prelude.{◌≡◌, length};
+ghost use Rattle.guard.specs.Zero.{AllZero};
 ghost use Rattle.goppa.specs.Loading.{check_matrix};
 ghost use Rattle.block.specs.Slots.{rows_of, sizes_of, sizes_bounded, check_bits};
 
@@ -42,7 +44,8 @@ impl Operator for CheckBlock<'_> {
     }
 }
 
-// The key of a slot, as sessions know it: a type of its own, since Key and Operator both have a row_action.
+// The key of a slot, as sessions know it. A type of its own: Key and Operator both have a row_action,
+// so that a call of it on one type with both would be ambiguous.
 #[derive(Clone, Copy)]
 pub struct SlotKey<'a> {
     pub slot: &'a KeySlot,
@@ -71,5 +74,34 @@ impl Key for SlotKey<'_> {
 
     fn row_action(&self, v: &[u8], out: &mut [u8]) -> Result<(), OperatorFault> {
         CheckBlock { slot: self.slot }.row_action(v, out)
+    }
+}
+
+// The memory that a matrix action works in: t words of m bits. What they held is secret, so they are
+// zero again when they are let go.
+struct LentWords<'k, 'w> {
+    slot: &'k KeySlot,
+    words: &'w mut [u16],
+    ghost long: { length words.now ≡ slot.now.set.t },
+}
+
+impl<'k, 'w> LentWords<'k, 'w> {
+    // Words of zeros.
+    fn new(slot: &'k KeySlot, words: &'w mut [u16]) -> LentWords<'k, 'w>
+        requires { length words.old ≡ slot.now.set.t }
+        ensures slot { result.slot.now ≡ slot.now }
+        ensures zero { AllZero result.words.now }
+    {
+        words.fill(0);
+        LentWords { slot, words }
+    }
+}
+
+impl Drop for LentWords<'_, '_> {
+    fn drop(self)
+        ensures { AllZero self.exit.1.0.now }
+    {
+        let LentWords { slot: _, words } = self;
+        words.fill(0);
     }
 }

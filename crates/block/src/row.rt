@@ -5,13 +5,14 @@ ghost use Rattle.std.specs.Prelude.{◌≡◌, ℕ, ◌+◌, ◌-◌, ◌*◌, �
 ghost use Rattle.galois.specs.Gf.{times};
 ghost use Rattle.galois.specs.Bit.{bits as two};
 ghost use Rattle.matrix.specs.Matrix.{apply_row};
-ghost use Rattle.bits.specs.Bits.{bits_of, bytes_for, low, pack};
+ghost use Rattle.bits.specs.Bits.{bytes_for, pack};
 ghost use Rattle.operator.specs.Actions.{RowAction};
 ghost use Rattle.goppa.specs.Loading.{check_matrix};
 ghost use Rattle.guard.specs.Zero.{AllZero};
 ghost use Rattle.block.specs.Lanes.{crossed, word_of, odd};
 ghost use Rattle.block.specs.Slots.{rows_of, column_crossed};
 
+use super::LentWords;
 use bits::source::{BitSource, write_bits};
 use bits::{bytes_for, get_bit, parity};
 use field::Field;
@@ -24,30 +25,33 @@ use params::set::ParameterSet;
 // How many columns are taken at once.
 const LANES: usize = 32;
 
-// The m bits of a vector from a place on.
-fn word_at(v: &[u8], at: usize, m: usize) -> u16
-    requires { (m ≤ 15) × (at ≤ 1664) }
-    ensures { result ≡ low m (λ k. bits_of v.now (at + k)) }
+// Word i of a vector, taken apart under the set.
+fn word_at(v: &[u8], set: ParameterSet, i: usize) -> u16
+    requires { i < set.t }
+    ensures { result ≡ word_of set.m v.now i }
 {
+    // a u32 in the set, as Rust counts bits (u16::BITS)
+    let m = set.m as usize;
+    let at = i * m;
     let mut word: u16 = 0;
     // by number: a vector's bits are no slice
     for b in (0..m).rev() {
-        word = 2 * word + get_bit(v, at + b) as u16;
+        word = 2 * word + u16::from(get_bit(v, at + b));
     }
     word
 }
 
-// The bits of a vector as words of m bits.
-fn take_words(v: &[u8], m: usize, words: &mut [u16])
-    requires { (m ≤ 15) × (m * length words.old ≤ 1664) }
-    ensures { (i : ℕ) → i < length words.old → slice_index words.new i ≡ word_of m v.now i }
-{
-    for (i, word) in words.iter_mut().enumerate() {
-        *word = word_at(v, i * m, m);
-    }
+// At most thirty-two columns, from `at` on.
+#[derive(Clone, Copy)]
+struct Block {
+    at: usize,
+    count: usize,
+    ghost within: { at ≤ 1664 },
+    ghost few: { count ≤ 32 },
 }
 
 // Columns side by side: the element x of each, the multiple of 1 / g(x) that is next, and its sum.
+// Three arrays: the first two are each copied in one piece from an array of the slot.
 #[derive(Drop)]
 struct Lanes {
     xs: [u16; LANES],
@@ -56,16 +60,15 @@ struct Lanes {
 }
 
 impl Lanes {
-    // Takes up thirty-two columns from `at` on.
-    fn take_columns(&mut self, slot: &KeySlot, at: usize)
-        requires { at ≤ 1664 }
-        ensures xs { (k : ℕ) → k < 32 → slice_index self.new.xs k ≡ slice_index slot.now.support (at + k) }
-        ensures powers { (k : ℕ) → k < 32 → slice_index self.new.powers k ≡ slice_index slot.now.inverses (at + k) }
+    // Takes up the thirty-two columns that begin with the block's.
+    fn take_columns(&mut self, slot: &KeySlot, block: Block)
+        ensures xs { (k : ℕ) → k < 32 → slice_index self.new.xs k ≡ slice_index slot.now.support (block.at + k) }
+        ensures powers { (k : ℕ) → k < 32 → slice_index self.new.powers k ≡ slice_index slot.now.inverses (block.at + k) }
         ensures sums { (k : ℕ) → k < 32 → slice_index self.new.sums k ≡ 0 }
     {
-        let end = at + LANES;
-        self.xs.copy_from_slice(&slot.support[at..end]);
-        self.powers.copy_from_slice(&slot.inverses[at..end]);
+        let end = block.at + LANES;
+        self.xs.copy_from_slice(&slot.support[block.at..end]);
+        self.powers.copy_from_slice(&slot.inverses[block.at..end]);
         self.sums.fill(0);
     }
 
@@ -139,75 +142,67 @@ impl BitSource for Parities<'_> {
     }
 }
 
-// A product in the making: the words of the vector, and the slot whose columns they meet.
-#[derive(Clone, Copy)]
-struct Product<'a> {
-    slot: &'a KeySlot,
-    words: &'a [u16],
-}
-
-impl Product<'_> {
-    // The words against thirty-two columns from `at` on.
-    fn cross_columns(&self, at: usize, lanes: &mut Lanes)
-        requires { at ≤ 1664 }
-        ensures { (k : ℕ) → k < 32 → slice_index lanes.new.sums k ≡ column_crossed self.now.slot.now self.now.words.now (at + k) }
+impl LentWords<'_, '_> {
+    // Takes up the bits of a vector, m in each word.
+    fn take(&mut self, v: &[u8])
+        ensures slot { self.new.slot.now ≡ self.old.slot.now }
+        ensures words { (i : ℕ) → i < self.old.slot.now.set.t → slice_index self.new.words.now i ≡ word_of self.old.slot.now.set.m v.now i }
     {
-        lanes.take_columns(self.slot, at);
+        let set = self.slot.set;
+        for (i, word) in self.words.iter_mut().enumerate() {
+            *word = word_at(v, set, i);
+        }
+    }
+
+    // The words against the thirty-two columns that begin with the block's.
+    fn cross_columns(&self, block: Block, lanes: &mut Lanes)
+        ensures { (k : ℕ) → k < 32 → slice_index lanes.new.sums k ≡ column_crossed self.now.slot.now self.now.words.now (block.at + k) }
+    {
+        lanes.take_columns(self.slot, block);
         cross_in(self.slot.set, self.words, lanes)
     }
 
-    // Writes the words times `count` columns from `at` on.
-    fn write_block(&self, at: usize, count: usize, lanes: &mut Lanes, out: &mut [u8])
-        requires within { (at ≤ 1664) × (count ≤ 32) }
-        requires room { length out.old ≡ bytes_for count }
-        ensures { out.new ≡ pack count (λ k. odd (column_crossed self.now.slot.now self.now.words.now (at + k))) }
+    // Writes the words times the columns of a block.
+    fn write_block(&self, block: Block, lanes: &mut Lanes, out: &mut [u8])
+        requires { length out.old ≡ bytes_for block.count }
+        ensures { out.new ≡ pack block.count (λ k. odd (column_crossed self.now.slot.now self.now.words.now (block.at + k))) }
     {
-        self.cross_columns(at, lanes);
-        write_bits(&Parities { words: &lanes.sums }, count, out)
+        self.cross_columns(block, lanes);
+        write_bits(&Parities { words: &lanes.sums }, block.count, out)
     }
 
-    // Writes the words times the first n columns.
-    fn write_blocks(&self, n: usize, out: &mut [u8])
-        requires small { n ≤ 1664 }
-        requires room { length out.old ≡ bytes_for n }
-        ensures { out.new ≡ pack n (λ j. odd (column_crossed self.now.slot.now self.now.words.now j)) }
+    // Writes the words times the check block.
+    fn write_blocks(&self, out: &mut [u8])
+        requires { length out.old ≡ bytes_for (rows_of self.now.slot.now) }
+        ensures { out.new ≡ pack (rows_of self.now.slot.now) (λ j. odd (column_crossed self.now.slot.now self.now.words.now j)) }
     {
+        let n = self.slot.set.rows();
         let mut lanes = Lanes {
             xs: [0; LANES],
             powers: [0; LANES],
             sums: [0; LANES],
         };
-        let blocks = (n + LANES - 1) / LANES;
+        let blocks = n.div_ceil(LANES);
         // by number: after chunks_mut a proof knows nothing of what was written
-        for block in 0..blocks {
-            let at = LANES * block;
+        for b in 0..blocks {
+            let at = LANES * b;
             let count = (n - at).min(LANES);
             let first = at / 8;
             let end = first + bytes_for(count);
-            self.write_block(at, count, &mut lanes, &mut out[first..end]);
+            self.write_block(Block { at, count }, &mut lanes, &mut out[first..end]);
         }
         lanes.clear();
     }
 }
 
-// Writes v times the check block; words is memory for the words of v, and then clear.
-fn write_row(slot: &KeySlot, v: &[u8], words: &mut [u16], out: &mut [u8])
-    requires words { length words.old ≡ slot.now.set.t }
-    requires room { length out.old ≡ bytes_for (rows_of slot.now) }
-    ensures written { out.new ≡ pack (rows_of slot.now) (apply_row two (rows_of slot.now) (check_matrix slot.now) (bits_of v.now)) }
-    ensures clear { AllZero words.new }
-{
-    take_words(v, slot.set.m as usize, words);
-    Product { slot, words }.write_blocks(slot.set.rows(), out);
-    words.fill(0);
-}
-
+// Of one shape with column_action: two actions of one trait, each with its own work.
 pub(crate) fn row_action(slot: &KeySlot, v: &[u8], out: &mut [u8]) -> Result<(), OperatorFault>
     ensures { RowAction (rows_of slot.now) (check_matrix slot.now) v.now out.old out.new result }
 {
     check_lengths(slot.set.rows(), v, out)?;
-    let mut words = [0u16; 128];
-    let t = slot.set.t;
-    write_row(slot, v, &mut words[0..t], out);
+    let mut memory = [0u16; 128];
+    let mut vector = LentWords::new(slot, &mut memory[..slot.set.t]);
+    vector.take(v);
+    vector.write_blocks(out);
     Ok(())
 }

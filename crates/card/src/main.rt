@@ -46,6 +46,7 @@ fn fetch<'a, R: Read>(
     if fill(input, &mut memory[..1])? == 0 {
         return Ok(None);
     }
+    // from 1 to LONGEST for every kind; the clamp tells the proof so
     let whole = length_for(memory[0], ROWS).clamp(1, LONGEST);
     let came = fill(input, &mut memory[1..whole])?;
     Ok(Some(&memory[..1 + came]))

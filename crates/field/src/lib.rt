@@ -14,14 +14,6 @@ ghost use Rattle.std.proofs.Common.{refl, lit≤};
 
 use std::marker::PhantomData;
 
-// The m low bits of a.
-fn low_bits(m: u32, a: u16) -> u16
-    requires narrow { m ≤ 15 }
-    ensures { result ≡ a % 2 ^ m }
-{
-    a & ((1 << m) - 1)
-}
-
 // x where the bit is 1, and 0 where it is 0, without a branch.
 fn masked(bit: u16, x: u16) -> u16
     requires { bit < 2 }
@@ -30,19 +22,34 @@ fn masked(bit: u16, x: u16) -> u16
     x & 0u16.wrapping_sub(bit)
 }
 
-// A polynomial f of degree m, which products are reduced by.
+// Arithmetic modulo f, a polynomial of degree m.
 #[derive(Clone, Copy)]
-struct Reducer {
+struct Reduction {
     m: u32,
     f: u16,
     ghost narrow: { m ≤ 15 },
     ghost top: { f / 2 ^ m ≡ 1 },
 }
 
-impl Reducer {
+impl Reduction {
+    fn new(m: u32, f: u16) -> Reduction
+        requires narrow { m ≤ 15 }
+        requires top { f / 2 ^ m ≡ 1 }
+        ensures { (result.m ≡ m) × (result.f ≡ f) }
+    {
+        Reduction { m, f }
+    }
+
+    // The m low bits of a.
+    fn low(self, a: u16) -> u16
+        ensures { result ≡ a % 2 ^ self.m }
+    {
+        a & ((1 << self.m) - 1)
+    }
+
     // z times x.
     fn times_z(self, x: u16) -> u16
-        requires { x < 2 ^ self.m }
+        requires element { x < 2 ^ self.m }
         ensures value { result ≡ times_z self.m self.f x }
         ensures element { result < 2 ^ self.m }
     {
@@ -55,7 +62,7 @@ impl Reducer {
         ensures { result ≡ times self.m self.f a b }
     {
         let mut sum: u16 = 0;
-        let mut x = low_bits(self.m, a);
+        let mut x = self.low(a);
         let mut y = b;
         // A count of steps, each from the last one's result: there is no index and no slice.
         for _ in 0..self.m {
@@ -68,7 +75,7 @@ impl Reducer {
 
     // The element in the m low bits of a to the power 2^m - 2.
     fn power(self, a: u16) -> u16
-        requires { 0 < self.m }
+        requires some { 0 < self.m }
         ensures { result ≡ inverse self.m self.f a }
     {
         let mut r: u16 = 1;
@@ -86,6 +93,7 @@ impl Reducer {
 pub trait Field: Copy {
     const WIDTH: u32;
 
+    // the constant, as the proofs know it
     ghost WIDTH: { ℕ };
 
     const REDUCER: u16;
@@ -101,7 +109,7 @@ pub trait Field: Copy {
     fn low(a: u16) -> u16
         ensures { result ≡ a % 2 ^ WIDTH }
     {
-        low_bits(Self::WIDTH, a)
+        Reduction::new(Self::WIDTH, Self::REDUCER).low(a)
     }
 
     fn add(a: u16, b: u16) -> u16
@@ -113,25 +121,17 @@ pub trait Field: Copy {
     fn mul(a: u16, b: u16) -> u16
         ensures { result ≡ times WIDTH REDUCER a b }
     {
-        let reducer = Reducer {
-            m: Self::WIDTH,
-            f: Self::REDUCER,
-        };
-        reducer.product(a, b)
+        Reduction::new(Self::WIDTH, Self::REDUCER).product(a, b)
     }
 
     // The inverse of 0 is 0.
     fn invert(a: u16) -> u16
         ensures { result ≡ inverse_of WIDTH REDUCER a }
     {
-        let reducer = Reducer {
-            m: Self::WIDTH,
-            f: Self::REDUCER,
-        };
         if Self::low(a) == 0 {
             0
         } else {
-            reducer.power(a)
+            Reduction::new(Self::WIDTH, Self::REDUCER).power(a)
         }
     }
 
@@ -250,6 +250,7 @@ impl Field for Bit {
 }
 
 // A polynomial over the bits with no factors, of degree WIDTH: bit i of REDUCER is its term z^i.
+// An impl is the data of one polynomial: its laws are computed of it, which they are not of a const parameter.
 pub trait Modulus: Copy {
     const WIDTH: u32;
 

@@ -27,12 +27,13 @@ impl Question {
             5 => self.answer::<Gf5>(),
             12 => self.answer::<Gf12>(),
             13 => self.answer::<Gf13>(),
+            // width 1, and what has no field: each line is answered, a wrong one too
             _ => self.answer::<Bit>(),
         }
     }
 }
 
-// The number in a word, 0 where it is none.
+// The number in a word, 0 where it is none: each line is answered, a wrong one too, so no error is told.
 fn number(word: Option<&str>) -> u16 {
     word.and_then(|text| text.parse().ok()).unwrap_or(0)
 }
@@ -46,6 +47,7 @@ fn main(rt: HostRuntime) -> anyhow::Result<()> {
         let what = words.next();
         let a = number(words.next());
         let b = number(words.next());
+        // The word is text from outside, and here it becomes a question; any word but this asks an inverse.
         let question = match what {
             Some("times") => Question::Times(a, b),
             _ => Question::Inverse(a),

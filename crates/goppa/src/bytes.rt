@@ -1,3 +1,4 @@
+// The bytes of a key under a set, and what loading asks of them.
 ghost use Rattle.std.specs.Prelude.{◌≡◌, ℕ, ◌+◌, ◌*◌, ◌/◌, ◌<◌, ◌≤◌, length, ◌==◌, bit_xor, slice_index};
 ghost use Rattle.matrix.specs.Matrix.{delta};
 ghost use Rattle.matrix.specs.Search.{found};
@@ -12,8 +13,9 @@ mod load;
 use crate::over_field;
 use field::Field;
 use params::set::ParameterSet;
+use std::marker::PhantomData;
 
-// The bytes of a key of the set: as many as it has.
+// The bytes of a key of the set: as many as such a key has.
 #[derive(Clone, Copy)]
 struct KeyBytes<'a> {
     set: ParameterSet,
@@ -85,7 +87,7 @@ impl KeyElements<'_> {
     {
         // a loop, since each step also marks what it saw
         for j in 0..self.key.set.n {
-            let x = self.point(j) as usize;
+            let x = usize::from(self.point(j));
             if is_marked(map, x) {
                 return Some(j);
             }
@@ -105,33 +107,17 @@ impl KeyElements<'_> {
         at
     }
 
-    // g(x), from the last coefficient to the first.
-    fn value_at<F: Field>(&self, x: u16) -> u16
-        requires { (F.WIDTH ≡ self.now.key.set.m) × (F.REDUCER ≡ self.now.key.set.f) }
-        ensures { result ≡ value self.now.key.set.m self.now.key.set.f self.now.key.set.t (entry_in self.now.key.bytes.now) x }
-    {
-        let mut r: u16 = 1;
-        // a loop: the closure of a fold would need its contract written out
-        for i in (0..self.key.set.t).rev() {
-            r = F::mul(x, r) ^ self.key.entry(i);
-        }
-        r
-    }
-
-    // Whether g is 0 at entry j of the support.
-    fn is_root<F: Field>(&self, j: usize) -> bool
-        requires field { (F.WIDTH ≡ self.now.key.set.m) × (F.REDUCER ≡ self.now.key.set.f) }
-        requires within { j < self.now.key.set.n }
-        ensures { result ≡ root_in (numbers self.now.key.set) self.now.key.bytes.now j }
-    {
-        self.value_at::<F>(self.point(j)) == 0
-    }
-
     // The first place in the support where g is 0.
     fn first_root(&self) -> Option<usize>
         ensures { result ≡ found self.now.key.set.n (root_in (numbers self.now.key.set) self.now.key.bytes.now) }
     {
-        over_field!(self.key.set, find_root(self))
+        over_field!(
+            self.key.set,
+            find_root(&InField {
+                elements: *self,
+                field: PhantomData
+            })
+        )
     }
 
     // Writes 1 / g at each entry of the support, and 0 past them: nothing of an older key stays.
@@ -139,25 +125,64 @@ impl KeyElements<'_> {
         requires { self.now.key.set.n ≤ length out.old }
         ensures { InversesIn (numbers self.now.key.set) self.now.key.bytes.now (λ j. slice_index out.new j) }
     {
-        over_field!(self.key.set, invert_values(self, out))
+        over_field!(
+            self.key.set,
+            invert_values(
+                &InField {
+                    elements: *self,
+                    field: PhantomData
+                },
+                out
+            )
+        )
     }
 }
 
-fn find_root<F: Field>(elements: &KeyElements) -> Option<usize>
-    requires { (F.WIDTH ≡ elements.now.key.set.m) × (F.REDUCER ≡ elements.now.key.set.f) }
-    ensures { result ≡ found elements.now.key.set.n (root_in (numbers elements.now.key.set) elements.now.key.bytes.now) }
-{
-    (0..elements.key.set.n).find(|&j| elements.is_root::<F>(j))
+// The elements, with the field of their set.
+#[derive(Drop)]
+struct InField<'a, F: Field> {
+    elements: KeyElements<'a>,
+    field: PhantomData<F>,
+    ghost same: { (F.WIDTH ≡ elements.key.set.m) × (F.REDUCER ≡ elements.key.set.f) },
 }
 
-fn invert_values<F: Field>(elements: &KeyElements, out: &mut [u16])
-    requires field { (F.WIDTH ≡ elements.now.key.set.m) × (F.REDUCER ≡ elements.now.key.set.f) }
-    requires room { elements.now.key.set.n ≤ length out.old }
-    ensures { InversesIn (numbers elements.now.key.set) elements.now.key.bytes.now (λ j. slice_index out.new j) }
+impl<F: Field> InField<'_, F> {
+    // g(x), from the last coefficient to the first.
+    fn value_at(&self, x: u16) -> u16
+        ensures { result ≡ value self.now.elements.key.set.m self.now.elements.key.set.f self.now.elements.key.set.t (entry_in self.now.elements.key.bytes.now) x }
+    {
+        let key = self.elements.key;
+        let mut r: u16 = 1;
+        // a loop: the closure of a fold would need its contract written out
+        for i in (0..key.set.t).rev() {
+            r = F::mul(x, r) ^ key.entry(i);
+        }
+        r
+    }
+
+    // Whether g is 0 at entry j of the support.
+    fn is_root(&self, j: usize) -> bool
+        requires { j < self.now.elements.key.set.n }
+        ensures { result ≡ root_in (numbers self.now.elements.key.set) self.now.elements.key.bytes.now j }
+    {
+        self.value_at(self.elements.point(j)) == 0
+    }
+}
+
+fn find_root<F: Field>(g: &InField<F>) -> Option<usize>
+    ensures { result ≡ found g.now.elements.key.set.n (root_in (numbers g.now.elements.key.set) g.now.elements.key.bytes.now) }
 {
+    (0..g.elements.key.set.n).find(|&j| g.is_root(j))
+}
+
+fn invert_values<F: Field>(g: &InField<F>, out: &mut [u16])
+    requires { g.now.elements.key.set.n ≤ length out.old }
+    ensures { InversesIn (numbers g.now.elements.key.set) g.now.elements.key.bytes.now (λ j. slice_index out.new j) }
+{
+    let elements = g.elements;
     for (j, y) in out.iter_mut().enumerate() {
         *y = if j < elements.key.set.n {
-            F::invert(elements.value_at::<F>(elements.point(j)))
+            F::invert(g.value_at(elements.point(j)))
         } else {
             0
         };

@@ -1,5 +1,5 @@
-// Calls a function that is generic over the field, over the field of the set.
-// The number m tells the field: tables, keys and proofs speak of it.
+// Calls a function that is generic over the field, over the field of the set; the crate that calls it
+// uses crate field. The number m tells the field: tables, keys and proofs speak of it.
 #[macro_export]
 macro_rules! over_field {
     ($set:expr, $work:ident($($argument:expr),*)) => {

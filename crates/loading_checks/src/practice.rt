@@ -11,7 +11,8 @@ const KEY12: [u8; 29] = [
     8, 0, 1, 0, 0, 0, 1, 0, 2, 0, 3, 0, 4, 0, 5, 0, 6, 0, 7, 0, 8, 0, 9, 0, 10, 0, 11, 0, 0,
 ];
 
-// practice20: g is entries 0 to 2, the support entries 3 to 22.
+// practice20: g is entries 0 to 2, the support entries 3 to 22. The session checks have it as well:
+// each program is read alone, its cases beside its key.
 const KEY20: [u8; 46] = [
     1, 0, 1, 0, 0, 0, 4, 0, 5, 0, 6, 0, 7, 0, 8, 0, 9, 0, 10, 0, 11, 0, 12, 0, 13, 0, 14, 0, 15, 0,
     16, 0, 17, 0, 18, 0, 19, 0, 20, 0, 21, 0, 22, 0, 23, 0,
@@ -58,6 +59,7 @@ fn try_case(rt: &HostRuntime, slot: &mut KeySlot, case: Case) -> io::Result<()> 
             *byte = *value;
         }
     }
+    // wrong lengths are the cases, so a case says how many bytes are loaded
     match bytes.get(..length) {
         Some(key) => tell::load(rt, slot, what, name, key),
         None => Ok(()),

@@ -99,9 +99,8 @@ impl Bench<'_> {
     fn power(&mut self, t: usize) -> anyhow::Result<()> {
         let heap = self.rt.alloc();
         let mut entries = self.entries.clone()?;
-        for coefficient in entries.iter_mut().take(t) {
-            *coefficient = 0;
-        }
+        let coefficients = t.min(entries.len());
+        entries[..coefficients].fill(0);
         let zero = entries
             .iter()
             .enumerate()

@@ -2,7 +2,7 @@
 use sink_lines::SinkLines;
 use std::io;
 
-pub fn run(rt: &HostRuntime) -> io::Result<()> {
+pub(super) fn run(rt: &HostRuntime) -> io::Result<()> {
     let lines = SinkLines;
     print!(rt; "{lines}")
 }

@@ -49,7 +49,7 @@ impl<A: Operator, B: Operator> Operator for Pair<A, B> {
         product_action(&self.first, &self.second, v, out)
     }
 
-    // v (a b) is (b' a') v of the transposed.
+    // v (a b) is (b' a') v, where a' and b' are the transposed.
     fn row_action(&self, v: &[u8], out: &mut [u8]) -> Result<(), OperatorFault> {
         let (first, second) = (&self.first, &self.second);
         product_action(

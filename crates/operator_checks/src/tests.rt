@@ -29,7 +29,7 @@ fn pack(m: &Square, n: usize, rows: &mut [u8]) {
     let width = if n > 8 { 2 } else { 1 };
     for (bytes, row) in rows.chunks_exact_mut(width).zip(m) {
         for (byte, bits) in bytes.iter_mut().zip(row.chunks_exact(8)) {
-            *byte = bits.iter().rev().fold(0, |byte, bit| byte << 1 | bit);
+            *byte = bits.iter().rev().fold(0, |byte, b| byte << 1 | b);
         }
     }
 }
@@ -120,14 +120,14 @@ fn nested_pairs_act_as_the_product(rt: HostRuntime) {
         first: StoredMatrix::new(15, &second),
         second: StoredMatrix::new(15, &third),
     };
-    let product = Pair {
+    let nested = Pair {
         first: Pair {
             first: &lent,
             second: inner,
         },
         second: &lent,
     };
-    acts_as(&rt, &product, &abca, 15, &[0x6a, 0xf1], &mut [0u8; 2]);
+    acts_as(&rt, &nested, &abca, 15, &[0x6a, 0xf1], &mut [0u8; 2]);
 }
 
 // The number and the place of a refusal.

@@ -61,7 +61,7 @@ impl ParameterSet {
     pub fn bytes(self) -> usize
         ensures { result ≡ (self.m * self.t + 7) / 8 }
     {
-        (self.rows() + 7) / 8
+        self.rows().div_ceil(8)
     }
 
     // The columns beside the check block: k.

@@ -28,7 +28,7 @@ use refusal::Fault;
 use refusal::told::{Layer, Refusal};
 use sink::fault::SinkFault;
 
-// By hand, since a derived `From` has no contract, and the contracts above name the fault that `?` makes.
+// By hand, since a derived `From` has no contract, and the contracts of the calls name the fault that `?` makes.
 impl From<SinkFault> for SessionFault {
     ghost from_gives = { λ f r. r ≡ Sink f };
 
@@ -97,7 +97,7 @@ fn check_lengths(n: usize, inverse: usize, working: usize) -> Result<(), Session
     Ok(())
 }
 
-// The working memory is two vectors of n bits, a and b.
+// An operator times a key's check matrix; its working memory is two vectors of n bits, a and b.
 #[derive(Drop)]
 struct Product<'k, 'w, K: Key, O: Operator> {
     n: usize,

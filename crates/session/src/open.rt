@@ -193,7 +193,8 @@ impl Open {
         }
     }
 
-    // What the sizes and the lengths of the lent memories are refused by.
+    // What the sizes and the lengths of the lent memories are refused by. The memories are named one by
+    // one, as the caller lends them and as the refusals tell them.
     fn check_memory<K: Key, O: Operator>(
         &self,
         key: &K,

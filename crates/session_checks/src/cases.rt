@@ -21,7 +21,7 @@ impl Lent {
         }
     }
 
-    // Each memory longer.
+    // Each memory longer, by amounts of its own, so this is not `short` with another sign.
     fn long(self) -> Lent {
         Lent {
             inverse: self.inverse.saturating_add(1),
@@ -339,7 +339,8 @@ const END20: [Tried; 12] = [
     ("row 14", &[0x12, 0x0e, 0, 0xb9, 0x38]),
 ];
 
-// Blindings, and the same with rows 0 and 1 equal.
+// Blindings, and the same with rows 0 and 1 equal. The walkthrough has the first two as well: each
+// program is read alone, its frames beside its blinding.
 const BLINDING12: [u8; 8] = [0x03, 0x02, 0x04, 0x08, 0x10, 0x20, 0x40, 0x80];
 
 const SINGULAR12: [u8; 8] = [0x02, 0x02, 0x04, 0x08, 0x10, 0x20, 0x40, 0x80];
@@ -354,7 +355,8 @@ const SINGULAR20: [u8; 30] = [
     0x04, 0, 0x08, 0, 0x10, 0, 0x20, 0, 0x40,
 ];
 
-// A key of practice20: g = 1, 1, 0 and support 4 to 23, low byte first.
+// A key of practice20: g = 1, 1, 0 and support 4 to 23, low byte first. The loading checks have it as
+// well: each program is read alone, its cases beside its key.
 pub(crate) const KEY20: [u8; 46] = [
     1, 0, 1, 0, 0, 0, 4, 0, 5, 0, 6, 0, 7, 0, 8, 0, 9, 0, 10, 0, 11, 0, 12, 0, 13, 0, 14, 0, 15, 0,
     16, 0, 17, 0, 18, 0, 19, 0, 20, 0, 21, 0, 22, 0, 23, 0,

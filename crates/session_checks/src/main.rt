@@ -113,7 +113,8 @@ impl<'a> Bench<'a> {
         Ok(())
     }
 
-    // A closing that is refused hands the session back.
+    // A closing that is refused hands the session back. The walkthrough does it on a bench of its own,
+    // and tells it in other words.
     fn close_early(self) -> io::Result<Option<Bench<'a>>> {
         match self.session.close() {
             Ok(_) => Ok(None),
@@ -149,6 +150,7 @@ impl<'a> Closed<'a> {
         lent: Lent,
         store: &mut PackedKey<'_>,
     ) -> io::Result<()> {
+        // wrong lengths are the cases, so a length says what is lent
         let mut working = vec![in self.rt.alloc(); 0xa5u8; lent.working]?;
         let Some(inverse) = self.inverse.get(..lent.inverse) else {
             return Ok(());
@@ -235,6 +237,7 @@ fn tell<F: Fault>(rt: &HostRuntime, fault: Option<F>) -> io::Result<()> {
     }
 }
 
+// The walkthrough has this as well, in words of its own.
 fn show_packed(rt: &HostRuntime, bytes: &[u8]) -> io::Result<()> {
     let packed = Hex { bytes };
     println!(rt; "  the packed key: {packed}")

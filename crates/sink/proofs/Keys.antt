@@ -87,9 +87,8 @@ key-written n l t w v xs ys ew ht long told =
     }
 
 -- a column that is 0 past row n, written over memory of n bits
-pub key-column : (n l t w : ℕ) (xs out got : List ℕ) → w ≡ bytes_for l → length out ≡ bytes_for n
-    → got ≡ cond (eqb (length out) (bytes_for n)) (pack n (λ i. cond (ltb i n) (of_rows w xs i t) 0)) out → got ≡ pack n (λ i. key_matrix l xs i t)
-key-column n l t w xs out got ew room wrote =
+pub key-column : (n l t : ℕ) (xs out got : List ℕ) → length out ≡ bytes_for n
+    → got ≡ cond (eqb (length out) (bytes_for n)) (pack n (λ i. cond (ltb i n) (key_matrix l xs i t) 0)) out → got ≡ pack n (λ i. key_matrix l xs i t)
+key-column n l t xs out got room wrote =
     wrote ∙ cond-true (eqb (length out) (bytes_for n)) _ _ (eq-eqb (length out) (bytes_for n) room)
-    ∙ pack-cong n (λ i. cond (ltb i n) (of_rows w xs i t) 0) (λ i. key_matrix l xs i t)
-    (λ i h. cond-true (ltb i n) _ _ (lt-ltb i n h) ∙ ap (λ w. of_rows w xs i t) ew)
+    ∙ pack-cong n (λ i. cond (ltb i n) (key_matrix l xs i t) 0) (λ i. key_matrix l xs i t) (λ i h. cond-true (ltb i n) _ _ (lt-ltb i n h))

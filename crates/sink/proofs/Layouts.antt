@@ -2,13 +2,13 @@
 use Rattle.std.proofs.Common.{◌≡◌, ℕ, ◌+◌, ◌%◌, ◌<◌, ◌≤◌, Bool, true, false, cond, eqb, List, [], length, get_or, replicate, is_ok, Ok, sym, refl, ap, ◌∙◌, inl, inr, arith}
 use Rattle.std.proofs.lemmas.Grind.{common_steps}
 use Rattle.std.proofs.lemmas.List.{get_or_past}
-use Rattle.std.proofs.lemmas.Bool.{cases_eq, cases_lt, eq-eqb, ne_eqb, cond-true, cond-false}
+use Rattle.std.proofs.lemmas.Bool.{cases_lt, eq-eqb, ne_eqb, cond-true, cond-false}
 use Rattle.matrix.specs.Matrix.{Mat}
 use Rattle.bits.specs.Bits.{bytes_for, bits_of, pad_bit, of_rows}
 use Rattle.bits.specs.Columns.{columns_of, entry_of}
 use Rattle.bits.proofs.Packs.{bits-pack-in, bits-lt, pad-in, pad-out}
 use Rattle.bits.proofs.Columns.{get_or-columns, length-columns}
-use Rattle.sink.specs.Layout.{width, wanted, column_at, bit_at, Blank, Written}
+use Rattle.sink.specs.Layout.{width, wanted, Blank, Written}
 use Rattle.sink.specs.Store.{Taking, store_in, book_matrix, key_matrix, matrix_in, bytes_in, check_in}
 use Rattle.sink.proofs.Rows.{rows-bytes, rows-blank, of_rows-lt, bits_none}
 use Rattle.sink.proofs.Stores.{takes}

@@ -81,11 +81,11 @@ matrix_in c n l xs = cond c (book_matrix n xs) (key_matrix l xs)
 abbrev pub store_in : Bool → ℕ → ℕ → ℕ → Bool → List ℕ → Store
 store_in c n l k wh xs = store_of n l k wh xs (matrix_in c n l xs)
 
--- a column book's memory
+-- what a column book holds
 abbrev pub book_store : ℕ → ℕ → ℕ → Bool → List ℕ → Store
 book_store = store_in true
 
--- a packed key's memory
+-- what a packed key holds
 abbrev pub key_store : ℕ → ℕ → ℕ → Bool → List ℕ → Store
 key_store = store_in false
 
@@ -97,7 +97,7 @@ book_bytes s = cond s.whole (packed_rows s.limit s.size (λ j i. entry_of s.colu
 abbrev pub key_bytes : Store → List ℕ
 key_bytes s = cond s.whole (packed_rows s.size s.limit (entry_of s.columns)) s.other
 
--- either of them
+-- the memory of a column book (c true: its rows are columns) or of a packed key (c false)
 abbrev pub bytes_in : Bool → Store → List ℕ
 bytes_in c s = cond c (book_bytes s) (key_bytes s)
 
@@ -114,7 +114,7 @@ book_check n l m = make_answer n l (l * bytes_for n) m
 abbrev pub key_check : ℕ → ℕ → ℕ → Result (Unit {0}) MakeFault
 key_check n l m = make_answer n l (n * bytes_for l) m
 
--- either of them
+-- a column book (c true: its rows are columns) or a packed key (c false) over m bytes
 abbrev pub check_in : Bool → ℕ → ℕ → ℕ → Result (Unit {0}) MakeFault
 check_in c n l m = cond c (book_check n l m) (key_check n l m)
 

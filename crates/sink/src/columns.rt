@@ -19,7 +19,8 @@ pub struct Shape {
     ghost small: { limit ≤ 8192 },
 }
 
-// How columns stand in memory that is rows of bits, each of whole bytes.
+// How columns stand in memory that is rows of bits, each of whole bytes. Memory, shape and place stay
+// three parameters: only these two functions take them, and `Columns` holds the first two.
 pub(crate) trait Layout {
     // each row is a column; else each row has one bit of every column
     ghost by_columns: { Bool };
@@ -122,7 +123,7 @@ impl<'a, L: Layout> Columns<'a, L> {
         ensures is { result.now ≡ self.now.bytes.now }
         ensures holds { result.now ≡ bytes_in L.by_columns (store_in L.by_columns self.now.shape.size self.now.shape.limit self.now.taken self.now.made self.now.bytes.now) }
     {
-        // tells the proof that each is below 256, which it knows of no slice that is only lent on
+        // Tells the proof that every byte is below 256; it does not know this of a slice that is only lent on.
         are_bytes(self.bytes);
         self.bytes
     }

@@ -1,6 +1,8 @@
 // The packed key: row after row, ⌈limit/8⌉ bytes each, as public keys are laid out.
-ghost use Rattle.std.specs.Prelude.{◌≡◌, ℕ, ◌*◌, ◌/◌, ◌<◌, ◌≤◌, false, length, if◌then◌else◌, nat_eq, nat_lt};
-ghost use Rattle.bits.specs.Bits.{bytes_for, bit_of, of_rows};
+ghost use Rattle.std.specs.Prelude.{◌≡◌, ℕ, ◌<◌, ◌≤◌, false, length, if◌then◌else◌, nat_eq, nat_lt};
+ghost use Rattle.bits.specs.Bits.{bit_of};
+ghost use Rattle.sink.specs.Layout.{wanted};
+ghost use Rattle.sink.specs.Store.{key_matrix};
 
 use super::columns::{Columns, Layout, Shape};
 use bits::source::{BitSource, write_bits};
@@ -26,20 +28,19 @@ fn put_bit(x: u8, b: usize, bit: u8) -> u8
 #[derive(Clone, Copy)]
 struct KeyColumn<'b> {
     bytes: &'b [u8],
-    size: usize,
-    width: usize,
+    shape: Shape,
     at: usize,
-    ghost small: { (size ≤ 1664) × (width ≤ 1024) },
-    ghost room: { size * width ≤ length bytes.now },
-    ghost place: { at / 8 < width },
+    ghost room: { wanted false shape.size shape.limit ≤ length bytes.now },
+    ghost place: { at < shape.limit },
 }
 
 impl BitSource for KeyColumn<'_> {
-    ghost vector = { λ s i. (if nat_lt i s.size then of_rows s.width s.bytes.now i s.at else 0) };
+    ghost vector = { λ s i. (if nat_lt i s.shape.size then key_matrix s.shape.limit s.bytes.now i s.at else 0) };
 
     fn bit(&self, i: usize) -> u8 {
-        if i < self.size {
-            bit_of(self.bytes[i * self.width + self.at / 8], self.at % 8)
+        if i < self.shape.size {
+            let w = bytes_for(self.shape.limit);
+            bit_of(self.bytes[i * w + self.at / 8], self.at % 8)
         } else {
             0
         }
@@ -67,12 +68,7 @@ impl Layout for Packed {
     }
 
     fn read(bytes: &[u8], shape: Shape, at: usize, out: &mut [u8]) {
-        let column = KeyColumn {
-            bytes,
-            size: shape.size,
-            width: bytes_for(shape.limit),
-            at,
-        };
+        let column = KeyColumn { bytes, shape, at };
         write_bits(&column, shape.size, out);
     }
 }

@@ -100,6 +100,7 @@ fn ask<W: fmt::Write, C: Fn(&[u8], usize, usize) -> Result<(), MakeFault>>(
 {
     let memory = [0u8; 9];
     for (size, limit, bytes) in all {
+        // wrong lengths are the cases, so a case says how many bytes are lent
         if let Some(part) = memory.get(..bytes) {
             write!(f, "  {what} of size {size}, limit {limit}, {bytes} bytes: ")?;
             tell(f, &[], check(part, size, limit))?;
@@ -161,10 +162,7 @@ fn tell<W: fmt::Write, F: Fault>(
     answer: Result<(), F>,
 ) -> fmt::Result {
     match answer {
-        Err(fault) => {
-            let refusal = fault.refusal();
-            writeln!(f, "{}", Words { refusal })
-        }
+        Err(fault) => writeln!(f, "{}", Words::from(fault)),
         Ok(()) if bytes.is_empty() => writeln!(f, "ok"),
         Ok(()) => writeln!(f, "ok {}", Hex { bytes }),
     }

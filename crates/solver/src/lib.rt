@@ -81,7 +81,8 @@ fn eliminate<F: Field>(first: &mut [F], second: &mut [F], n: usize) -> Solved
     ensures clean { Clean F.WIDTH F.number first.new × Clean F.WIDTH F.number second.new }
 {
     let mut table = Square::cleaned(first, n);
-    let mut inverse = Square::identity(second, n);
+    let mut inverse = Square::cleaned(second, n);
+    inverse.make_identity();
     let mut pair = Pair {
         first: &mut table,
         second: &mut inverse,
@@ -95,6 +96,10 @@ fn eliminate<F: Field>(first: &mut [F], second: &mut [F], n: usize) -> Solved
 }
 
 // Two square tables of one order, in which elimination takes each step side by side.
+// They are borrowed: when a slice lent in a struct within a struct is given back, the proof is not
+// told what it holds.
+// Each step says that the orders and lent cells stay, for `&mut self` does not say it; a column is a
+// number of its own to each method, and a type for it would have to be held to the order just so.
 #[derive(Drop)]
 struct Pair<'p, 'q, 'a, 'b, F: Field> {
     first: &'p mut Square<'a, F>,
@@ -107,32 +112,18 @@ impl<'p, 'q, 'a, 'b, F: Field> Pair<'p, 'q, 'a, 'b, F> {
 
     // Deals with every column, and gives the number of pivots.
     fn do_columns(&mut self) -> usize
-        requires some { 0 < self.old.first.now.order }
         ensures place { Kept self.old self.new }
         ensures state { (M : Mat) → Reaches self.old M 0 0 → Reaches self.new M self.old.first.now.order result }
     {
         let mut r = 0;
         // A step takes a column's number in two tables, so there is no slice to go over.
         for c in 0..self.first.order() {
-            r = self.do_column(c, r);
+            if let Some(p) = self.first.find_pivot(c, r) {
+                self.take_pivot(c, r, p);
+                r += 1;
+            }
         }
         r
-    }
-
-    // Deals with column c, after r pivots, and gives the number of pivots.
-    fn do_column(&mut self, c: usize, r: usize) -> usize
-        requires within { (c < self.old.first.now.order) × (r ≤ c) }
-        ensures most { result ≤ c + 1 }
-        ensures place { Kept self.old self.new }
-        ensures state { (M : Mat) → Reaches self.old M c r → Reaches self.new M (c + 1) result }
-    {
-        match self.first.find_pivot(c, r) {
-            Some(p) => {
-                self.take_pivot(c, r, p);
-                r + 1
-            }
-            None => r,
-        }
     }
 
     // Brings row p, from r on, with the pivot of column c, to place r, and clears the column by it.
@@ -158,29 +149,17 @@ impl<'p, 'q, 'a, 'b, F: Field> Pair<'p, 'q, 'a, 'b, F> {
     {
         // By number, as the columns.
         for i in 0..self.first.order() {
-            self.clear_row(c, r, i);
+            let s = self.first.get(i, c);
+            if i != r && !s.is_zero() {
+                self.first.add_row(i, r, s);
+                self.second.add_row(i, r, s);
+            }
         }
-    }
-
-    // Clears row i in column c, if it is not row r.
-    fn clear_row(&mut self, c: usize, r: usize, i: usize)
-        requires within { (c < self.old.first.now.order) × (r < self.old.first.now.order) × (i < self.old.first.now.order) }
-        ensures place { Kept self.old self.new }
-        ensures state { (M : Mat) → Clears self.old M c r i → Clears self.new M c r (i + 1) }
-    {
-        if i == r {
-            return;
-        }
-        let s = self.first.get(i, c);
-        if s.is_zero() {
-            return;
-        }
-        self.first.add_row(i, r, s);
-        self.second.add_row(i, r, s);
     }
 }
 
 // A table of n by n cells, row after row, in which no cell has bits above its element.
+// Not a Table: that takes cells and a size as they come, and refuses by them; here they fit.
 #[derive(Drop)]
 struct Square<'a, F: Field> {
     cells: &'a mut [F],
@@ -204,14 +183,18 @@ impl<'a, F: Field> Square<'a, F> {
         Square { cells, order }
     }
 
-    fn identity(cells: &'a mut [F], order: usize) -> Square<'a, F>
-        requires size { length cells.old ≡ order * order }
-        requires small { order ≤ limit }
-        ensures place { (result.order ≡ order) × (result.cells.ghost_name ≡ cells.entry.ghost_name) }
-        ensures made { Same order (matrix result) delta }
+    fn make_identity(&mut self)
+        ensures place { InPlace self.old self.new }
+        ensures made { Same self.old.order (matrix self.new) delta }
     {
-        make_identity(cells, order);
-        Square { cells, order }
+        let n = self.order;
+        let cells = &mut *self.cells;
+        make_zero(cells);
+        // By number: after iter_mut().step_by(n + 1), or chunks_exact_mut(n), a proof knows nothing of
+        // what was written.
+        for i in 0..n {
+            cells[i * n + i] = F::of(1);
+        }
     }
 
     fn order(&self) -> usize
@@ -290,8 +273,8 @@ fn scale<F: Field>(row: &mut [F], s: F)
 }
 
 // Adds s times another row to a row. The other is copied first: of two lent rows the compiler does
-// not know that they are apart, and would add cell by cell, which takes six times as long (1,664
-// rows of bits: 3 s for 0.5 s).
+// not know that they are apart, and would add cell by cell. Solving a table of 1,664 rows of bits
+// would then take 3 s instead of 0.5 s, measured on a Xeon at 2.5 GHz.
 fn add_scaled<F: Field>(row: &mut [F], other: &[F], s: F)
     requires alike { length row.old ≡ length other.now }
     requires small { length other.now ≤ limit }
@@ -303,6 +286,7 @@ fn add_scaled<F: Field>(row: &mut [F], other: &[F], s: F)
     for (k, x) in other.iter().enumerate() {
         copy[k] = *x;
     }
+    // By number: after a loop over iter_mut().zip(..) a proof knows nothing of what was written.
     for (j, x) in row.iter_mut().enumerate() {
         *x = x.plus(s.times(copy[j]));
     }
@@ -315,19 +299,6 @@ fn make_clean<F: Field>(cells: &mut [F])
 {
     for x in cells.iter_mut() {
         *x = F::of(x.get());
-    }
-}
-
-fn make_identity<F: Field>(cells: &mut [F], n: usize)
-    requires size { length cells.old ≡ n * n }
-    requires small { n ≤ limit }
-    ensures made { Same n (entries F.WIDTH F.number n cells.new) delta }
-    ensures clean { Clean F.WIDTH F.number cells.new }
-{
-    make_zero(cells);
-    // The diagonal is no slice: its cells are had by their places alone.
-    for i in 0..n {
-        cells[i * n + i] = F::of(1);
     }
 }
 

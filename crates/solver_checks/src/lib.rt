@@ -64,7 +64,7 @@ mod tests {
             let fault = SolveFault::Size(size);
             assert!(rt; solve(&mut a, &mut b, size) == Err(fault));
             assert!(rt; fault.number() == 29);
-            assert!(rt; fault.place() == size as u16);
+            assert!(rt; usize::from(fault.place()) == size);
             assert!(rt; fault.layer() == Layer::Solving);
             assert!(rt; a.iter().all(|cell| cell.value == 7));
             assert!(rt; b.iter().all(|cell| cell.value == 9));
@@ -73,6 +73,7 @@ mod tests {
 
     #[test]
     fn refuses_tables_one_cell_short_or_long(rt: HostRuntime) {
+        // wrong lengths are the cases
         for length in [3, 5] {
             let mut a = [Bit { value: 1 }; 5];
             let mut b = [Bit { value: 1 }; 4];

@@ -10,10 +10,11 @@ use block::SlotKey;
 use field::{Bit, Field};
 use goppa::slot::KeySlot;
 use operator::stored::StoredMatrix;
+use session::fault::SessionFault;
 use session::state::{Open, Ready};
 use sink::Sink;
 use sink::key::PackedKey;
-use solver::{Solved, Table};
+use solver::{SolveFault, Solved, Table};
 use std::alloc::{AllocError, Global};
 use std::cmp::Ordering;
 use std::fs;
@@ -44,7 +45,7 @@ impl Sequence {
     }
 
     fn byte(&mut self) -> u8 {
-        (self.next() >> 32 & 0xff) as u8
+        self.next().to_le_bytes()[4]
     }
 }
 
@@ -108,11 +109,11 @@ fn keep_column(table: &mut [Bit], n: usize, j: usize, column: &[u8])
     }
 }
 
-// The inverse of the first table in the second; false where there is none.
-fn invert(first: &mut [Bit], second: &mut [Bit], n: usize) -> bool {
+// Solves the first table with the second one, which then holds the inverse if there is one.
+fn invert(first: &mut [Bit], second: &mut [Bit], n: usize) -> Result<Solved, SolveFault> {
     let mut from = Table::new(first, n);
     let mut into = Table::new(second, n);
-    matches!(from.solve(&mut into), Ok(Solved::Inverse))
+    from.solve(&mut into)
 }
 
 // Eight cells as a byte, the first one in its lowest bit.
@@ -120,11 +121,23 @@ fn packed(eight: &[Bit]) -> u8 {
     eight
         .iter()
         .rev()
-        .fold(0, |byte, cell| (byte << 1) | (cell.get() & 1) as u8)
+        .fold(0, |byte, cell| (byte << 1) | (cell.value & 1))
 }
 
-// A session under way, and what a card keeps beside it. A frame begins with its kind, 11 for a column
-// and 12 for a row, and an index, the low byte first.
+// A frame begins with its kind and an index, the low byte first; these are the kinds that are sent.
+const COLUMN: u8 = 0x11;
+
+const ROW: u8 = 0x12;
+
+// The frame of row i.
+fn row_frame(heap: Global, i: usize, row: &[Bit]) -> Result<Vec<u8>, AllocError> {
+    let [low, high, ..] = i.to_le_bytes();
+    let mut frame = vec![in heap; ROW, low, high]?;
+    frame.extend(row.chunks(8).map(packed))?;
+    Ok(frame)
+}
+
+// A session under way, and what a card keeps beside it.
 #[derive(Drop)]
 struct Bench<'a> {
     heap: Global,
@@ -135,8 +148,8 @@ struct Bench<'a> {
 }
 
 impl Bench<'_> {
-    // Sends a frame; the reply, or none where it was refused.
-    fn send(&mut self, frame: &[u8]) -> Option<[u8; 211]> {
+    // Sends a frame; the reply, or why it is refused.
+    fn send(&mut self, frame: &[u8]) -> Result<[u8; 211], SessionFault> {
         let mut working = [0u8; 416];
         let mut reply = [0u8; 211];
         let answer = self.session.answer(
@@ -147,10 +160,7 @@ impl Bench<'_> {
             frame,
             &mut reply,
         );
-        match answer.fault {
-            Some(_) => None,
-            None => Some(reply),
-        }
+        answer.fault.map_or(Ok(reply), Err)
     }
 
     // Asks all columns into a table.
@@ -158,28 +168,21 @@ impl Bench<'_> {
         let mut table = blank(self.heap, n)?;
         for j in 0..n {
             let [low, high, ..] = j.to_le_bytes();
-            if let Some(reply) = self.send(&[0x11, low, high]) {
+            if let Ok(reply) = self.send(&[COLUMN, low, high]) {
                 keep_column(&mut table, n, j, &reply[3..]);
             }
         }
         Ok(table)
     }
 
-    // Sends row i; whether it was taken.
-    fn send_row(&mut self, i: usize, row: &[Bit]) -> anyhow::Result<bool> {
-        let [low, high, ..] = i.to_le_bytes();
-        let mut frame = vec![in self.heap; 0x12u8, low, high]?;
-        frame.extend(row.chunks(8).map(packed))?;
-        Ok(self.send(&frame).is_some())
-    }
-
     // Sends the rows of a table; how many were taken. A loop counts, since making a frame may fail.
-    fn send_rows(&mut self, table: &[Bit], n: usize) -> anyhow::Result<usize>
+    fn send_rows(&mut self, table: &[Bit], n: usize) -> Result<usize, AllocError>
         requires { 0 < n }
     {
         let mut taken = 0usize;
         for (i, row) in table.chunks(n).enumerate() {
-            if self.send_row(i, row)? {
+            let frame = row_frame(self.heap, i, row)?;
+            if self.send(&frame).is_ok() {
                 taken = taken.saturating_add(1);
             }
         }
@@ -209,7 +212,7 @@ impl Bench<'_> {
     }
 }
 
-// Publishes k columns; how many went through.
+// Publishes k columns; how many went through. A loop, since each round publishes: it does more than count.
 fn publish(
     key: &SlotKey<'_>,
     ready: &mut Ready,
@@ -218,9 +221,13 @@ fn publish(
     k: usize,
 ) -> usize {
     let mut working = [0u8; 416];
-    (0..k)
-        .filter(|_| { ready.publish(key, inverse, &mut working, store).is_ok() })
-        .count()
+    let mut sent = 0usize;
+    for _ in 0..k {
+        if ready.publish(key, inverse, &mut working, store).is_ok() {
+            sent = sent.saturating_add(1);
+        }
+    }
+    sent
 }
 
 fn run_set(rt: &HostRuntime, name: &str) -> anyhow::Result<()> {
@@ -245,7 +252,7 @@ fn run_set(rt: &HostRuntime, name: &str) -> anyhow::Result<()> {
     let mut first = bench.ask(n)?;
     println!(rt; "{name}: key loaded, {n} columns answered")?;
     let mut second = blank(heap, n)?;
-    if !invert(&mut first, &mut second, n) {
+    if invert(&mut first, &mut second, n) != Ok(Solved::Inverse) {
         println!(rt; "{name}: no inverse")?;
         return Ok(());
     }

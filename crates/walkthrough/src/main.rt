@@ -18,6 +18,7 @@ const ROWS: usize = 8;
 
 const REST: usize = 4;
 
+// Other programs have these as well: each is read alone, its frames beside its blinding.
 const BLINDING: [u8; 8] = [0x03, 0x02, 0x04, 0x08, 0x10, 0x20, 0x40, 0x80];
 
 const SINGULAR: [u8; 8] = [0x02, 0x02, 0x04, 0x08, 0x10, 0x20, 0x40, 0x80];
@@ -118,7 +119,8 @@ impl<'a> Bench<'a> {
         println!(self.rt; "  Complete. The card holds the inverse of its check block, rows {kept}.")
     }
 
-    // A closing that is refused hands the session back.
+    // A closing that is refused hands the session back. The session checks do it on a bench of their own,
+    // and tell it in other words.
     fn close_early(self) -> io::Result<Option<Bench<'a>>> {
         match self.session.close() {
             Ok(_) => Ok(None),
@@ -193,6 +195,7 @@ fn publish(
     show_packed(rt, store.bytes())
 }
 
+// The session checks have this as well, in words of their own.
 fn show_packed(rt: &HostRuntime, bytes: &[u8]) -> io::Result<()> {
     let packed = Hex { bytes };
     println!(rt; "  The packed public key, row after row: {packed}")

@@ -1,5 +1,5 @@
 // Refusals and bytes in words, for programs that talk to people.
-// It promises nothing but text; what a refusal means is fixed by the layer that makes it.
+// What a refusal means is fixed by the layer that makes it.
 #![tactic(auto)]
 
 ghost use Rattle.std.specs.Prelude.{◌≡◌};
@@ -39,7 +39,7 @@ fn layer_name(layer: Layer) -> &'static str {
     }
 }
 
-// The numbers as docs/REFUSALS.md lists them: of a refusal no more than the number is kept.
+// By number, as docs/REFUSALS.md lists them: a Refusal keeps the number and not the fault.
 fn meaning(number: u8) -> &'static str {
     match number {
         1 => "no parameter set has this name",

@@ -1,4 +1,5 @@
 use Rattle.std.proofs.Common.{sym, ◌∙◌, subst, rules}
+use Rattle.matrix.specs.Matrix.{Same, delta}
 use Rattle.matrix.specs.Steps.{State}
 use Rattle.matrix.proofs.Elim.{start}
 use Rattle.solver.specs.Answers.{TheInverse, Vanishing}
@@ -16,15 +17,16 @@ returns-then-rank-n-clause-solves g c =
     let t = c.do_columns-rank.new.self.first.now in
     let u = c.do_columns-rank.new.self.second.now in
     let X = matrix c.cleaned-table.result in
-    let Y = matrix c.identity-inverse.result in
+    let Y = matrix c.make_identity.new.self in
     let rank = c.do_columns-rank.result in
     let o = c.cleaned-table.ensures.place.0 in
+    let o' = c.make_identity.ensures.place.0 ∙ c.cleaned-inverse.ensures.place.0 in
     let hm = entries-elements f.WIDTH f.number f.arith n c.args.first.now g.met.F.Field.wide in
     let hu = entries-elements f.WIDTH f.number f.arith u.order u.cells.now g.met.F.Field.wide in
-    let begun = start f.arith n M X Y hm (λ i j _ _. sym (c.cleaned-table.ensures.made i j)) (λ i j hi hj. sym (c.identity-inverse.ensures.made i j hi hj)) in
+    let begun = start f.arith n M X Y hm (λ i j _ _. sym (c.cleaned-table.ensures.made i j)) (subst (λ k. Same k delta Y) c.cleaned-inverse.ensures.place.0 (λ i j hi hj. sym (c.make_identity.ensures.made i j hi hj))) in
     let reached = c.do_columns-rank.ensures.state M (subst (λ k. State f.arith k M X Y 0 0) (sym o) begun) in
     let ended = subst (λ k. State f.arith k M (matrix t) (matrix u) n rank) (c.do_columns-rank.ensures.place.0.0 ∙ o) (subst (λ k. State f.arith t.order M (matrix t) (matrix u) k rank) o reached) in
-    let there = subst (λ k. Vanishing f.arith n M (entries f.WIDTH f.number k u.cells.now) rank) (c.do_columns-rank.ensures.place.1.0 ∙ c.identity-inverse.ensures.place.0)
+    let there = subst (λ k. Vanishing f.arith n M (entries f.WIDTH f.number k u.cells.now) rank) (c.do_columns-rank.ensures.place.1.0 ∙ o')
     (short-at-end f.arith n M (matrix t) (matrix u) rank hm hu ended c.if-rank-n.true) in
     subst (λ l. Vanishing f.arith n M (entries f.WIDTH f.number n l) rank) (search rules) there
 
@@ -36,14 +38,15 @@ returns-else-rank-n-clause-solves g c =
     let t = c.do_columns-rank.new.self.first.now in
     let u = c.do_columns-rank.new.self.second.now in
     let X = matrix c.cleaned-table.result in
-    let Y = matrix c.identity-inverse.result in
+    let Y = matrix c.make_identity.new.self in
     let rank = c.do_columns-rank.result in
     let o = c.cleaned-table.ensures.place.0 in
+    let o' = c.make_identity.ensures.place.0 ∙ c.cleaned-inverse.ensures.place.0 in
     let hm = entries-elements f.WIDTH f.number f.arith n c.args.first.now g.met.F.Field.wide in
     let hu = entries-elements f.WIDTH f.number f.arith u.order u.cells.now g.met.F.Field.wide in
-    let begun = start f.arith n M X Y hm (λ i j _ _. sym (c.cleaned-table.ensures.made i j)) (λ i j hi hj. sym (c.identity-inverse.ensures.made i j hi hj)) in
+    let begun = start f.arith n M X Y hm (λ i j _ _. sym (c.cleaned-table.ensures.made i j)) (subst (λ k. Same k delta Y) c.cleaned-inverse.ensures.place.0 (λ i j hi hj. sym (c.make_identity.ensures.made i j hi hj))) in
     let reached = c.do_columns-rank.ensures.state M (subst (λ k. State f.arith k M X Y 0 0) (sym o) begun) in
     let ended = subst (λ k. State f.arith k M (matrix t) (matrix u) n rank) (c.do_columns-rank.ensures.place.0.0 ∙ o) (subst (λ k. State f.arith t.order M (matrix t) (matrix u) k rank) o reached) in
-    let there = subst (λ k. TheInverse f.arith n M (entries f.WIDTH f.number k u.cells.now)) (c.do_columns-rank.ensures.place.1.0 ∙ c.identity-inverse.ensures.place.0)
+    let there = subst (λ k. TheInverse f.arith n M (entries f.WIDTH f.number k u.cells.now)) (c.do_columns-rank.ensures.place.1.0 ∙ o')
     (whole-at-end f.arith n M (matrix t) (matrix u) rank hm hu ended c.if-rank-n.false) in
     subst (λ l. TheInverse f.arith n M (entries f.WIDTH f.number n l)) (search rules) there

@@ -6,8 +6,8 @@ use Rattle.goppa.proofs.bytes.find_root.Goals as goal
 
 pub returns : goal.returns
 returns g c =
-    let s = c.args.elements.now.key.set in
-    let bs = c.args.elements.now.key.bytes.now in
+    let s = c.args.g.now.elements.key.set in
+    let bs = c.args.g.now.elements.key.bytes.now in
     let p = root s.m s.f s.t (entry_in bs) (support_in s.t bs) in
     found-by s.n p c.find.result
     (first_from_Range _ _ _ _ (λ k. p k ≡ true) (λ k. p k ≡ false) c.find.ensures.ran (λ x q h. search rules) (λ x q h. (search rules, search rules)))

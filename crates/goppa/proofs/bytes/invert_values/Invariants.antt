@@ -6,6 +6,6 @@ use Rattle.goppa.proofs.bytes.invert_values.Given as goal
 
 abbrev pub invariant-loop-j : goal.invariant-loop-j
 invariant-loop-j g l =
-    let s = l.elements.key.set in
-    let bs = l.elements.key.bytes.now in
+    let s = l.g.elements.key.set in
+    let bs = l.g.elements.key.bytes.now in
     (k : ℕ) → k < l.j → k < s.n → get_or l.out k 0 ≡ inverse_of s.m s.f (value s.m s.f s.t (entry_in bs) (support_in s.t bs k))

@@ -14,15 +14,15 @@ pub returns-then-is_marked : goal.returns-then-is_marked
 returns-then-is_marked c =
     let key = c.args.self.now.key in
     let a = support_in key.set.t key.bytes.now in
-    let q = seen-tells a c.loop-j.j _ (marked c.loop-j.map) true c.loop-j.invariant.0 c.point-x.ensures (sym c.if-is_marked.true ∙ c.is_marked.ensures) in
+    let q = seen-tells a c.loop-j.j _ (marked c.loop-j.map) true c.loop-j.invariant.0 (c.from-x.ensures ∙ c.point.ensures) (sym c.if-is_marked.true ∙ c.is_marked.ensures) in
     found-is key.set.n c.loop-j.j (repeated a) c.loop-j-test.true c.loop-j.invariant.1 q
 
 pub loop-j-preserved : goal.loop-j-preserved
 loop-j-preserved c =
     let key = c.args.self.now.key in
     let a = support_in key.set.t key.bytes.now in
-    let q = seen-tells a c.loop-j.j _ (marked c.loop-j.map) false c.loop-j.invariant.0 c.point-x.ensures (sym c.if-is_marked.false ∙ c.is_marked.ensures) in (
-      seen_more a c.loop-j.j _ (marked c.loop-j.map) _ c.loop-j.invariant.0 c.point-x.ensures q c.flip_mark.ensures,
+    let q = seen-tells a c.loop-j.j _ (marked c.loop-j.map) false c.loop-j.invariant.0 (c.from-x.ensures ∙ c.point.ensures) (sym c.if-is_marked.false ∙ c.is_marked.ensures) in (
+      seen_more a c.loop-j.j _ (marked c.loop-j.map) _ c.loop-j.invariant.0 (c.from-x.ensures ∙ c.point.ensures) q c.flip_mark.ensures,
       below_more _ _ c.loop-j.invariant.1 q,
     )
 

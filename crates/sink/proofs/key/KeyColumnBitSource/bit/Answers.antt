@@ -7,4 +7,4 @@ pub returns-then-i-self-clause-value : goal.returns-then-i-self-clause-value
 unfolding of_rows
 returns-then-i-self-clause-value c =
     let s = c.args.self.now in
-    c.bit_of.ensures.value ∙ sym (cond-true (ltb c.args.i s.size) _ _ (lt-ltb c.args.i s.size c.if-i-self.true))
+    rw (c.bytes_for-w.ensures) at c.bit_of.ensures.value ∙ sym (cond-true (ltb c.args.i s.shape.size) _ _ (lt-ltb c.args.i s.shape.size c.if-i-self.true))

@@ -4,5 +4,4 @@ use Rattle.sink.proofs.key.PackedLayout.read.Goals as goal
 pub returns : goal.returns
 returns c =
     let s = c.args.shape in
-    key-column s.size s.limit c.args.at c.bytes_for.result c.args.bytes.now c.args.out.now c.write_bits.new.out
-    c.bytes_for.ensures c.requires.whole c.write_bits.ensures
+    key-column s.size s.limit c.args.at c.args.bytes.now c.args.out.now c.write_bits.new.out c.requires.whole c.write_bits.ensures

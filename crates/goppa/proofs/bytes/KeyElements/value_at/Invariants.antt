@@ -1,7 +1,0 @@
-use Rattle.std.proofs.Common.{◌≡◌, ◌-◌}
-use Rattle.goppa.specs.Loading.{entry_in}
-use Rattle.goppa.proofs.Horner.{upper}
-use Rattle.goppa.proofs.bytes.KeyElements.value_at.Given as goal
-
-abbrev pub invariant-loop-i : goal.invariant-loop-i
-invariant-loop-i g l = let s = l.self.key.set in l.r ≡ upper s.m s.f (s.t - l.i) (entry_in l.self.key.bytes.now) l.x l.i
