@@ -75,7 +75,6 @@ impl<'a, F: Field> Table<'a, F> {
 // Eliminates the first table, with each step made in the second too, which begins as the identity.
 fn eliminate<F: Field>(first: &mut [F], second: &mut [F], n: usize) -> Solved
     requires size { (length first.old ≡ n * n) × (length second.old ≡ n * n) }
-    requires some { 0 < n }
     requires small { n ≤ limit }
     ensures solves { Solves F.arith n (entries F.WIDTH F.number n first.old) (entries F.WIDTH F.number n second.new) result }
     ensures clean { Clean F.WIDTH F.number first.new × Clean F.WIDTH F.number second.new }
@@ -160,6 +159,7 @@ impl<'p, 'q, 'a, 'b, F: Field> Pair<'p, 'q, 'a, 'b, F> {
 
 // A table of n by n cells, row after row, in which no cell has bits above its element.
 // Not a Table: that takes cells and a size as they come, and refuses by them; here they fit.
+// Each method that writes says that order and lent cells stay, for `&mut self` does not say it.
 #[derive(Drop)]
 struct Square<'a, F: Field> {
     cells: &'a mut [F],
@@ -183,6 +183,7 @@ impl<'a, F: Field> Square<'a, F> {
         Square { cells, order }
     }
 
+    // Writes the identity over the cells.
     fn make_identity(&mut self)
         ensures place { InPlace self.old self.new }
         ensures made { Same self.old.order (matrix self.new) delta }
