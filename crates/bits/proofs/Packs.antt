@@ -119,6 +119,10 @@ low-mod (suc m) (suc r) x h =
 pub pad-lt : (n : ℕ) (f : ℕ → ℕ) (i : ℕ) → pad_bit n f i < 2
 pad-lt n f i = elim (ltb i n) as (λ b. cond b (f i % 2) 0 < 2) [ true ↦ omega arith | false ↦ omega arith ]
 
+-- fewer than eight bits of a vector
+pub few-lt : (n : ℕ) (f : ℕ → ℕ) (at k x : ℕ) → 0 < k → x ≡ low (8 - k) (λ i. pad_bit n f (at + i)) → x < 128
+few-lt n f at k x h e = let l = low-below (8 - k) 7 (λ i. pad_bit n f (at + i)) (λ i. pad-lt n f (at + i)) (omega arith) in omega arith
+
 pub pad-in : (n : ℕ) (f : ℕ → ℕ) (i : ℕ) → i < n → pad_bit n f i ≡ f i % 2
 pad-in n f i h = cond-true (ltb i n) _ _ (lt-ltb i n h)
 

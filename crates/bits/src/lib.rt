@@ -20,6 +20,8 @@ pub fn bytes_for(n: usize) -> usize
 }
 
 // Bit k of a byte, lowest first.
+// A bit is a u8 and has no type of its own: sums and products of bits are taken on bytes, so each use
+// would turn it into a number again.
 #[tactic(auto, unfolding(crate::specs::Bits::bit_of))]
 pub fn bit_of(b: u8, k: usize) -> u8
     ensures value { result ≡ bit_of b k }
@@ -77,7 +79,7 @@ fn rest(s: &[u8], at: usize) -> &[u8]
     s.get(at..).unwrap_or(&[])
 }
 
-// The first n bytes, fewer where there are fewer.
+// The first n bytes, fewer where there are fewer, so that no caller has to look how many there are.
 fn first(s: &[u8], n: usize) -> &[u8]
     ensures { result.now ≡ take n s.now }
 {
@@ -92,17 +94,20 @@ fn products(a: &[u8], b: &[u8]) -> u8
 }
 
 // The sum of the products of the first n bits of two vectors, the first from byte `at` on.
+// The offset stands beside the slice here and in `xor_row`, since both promise their result at every
+// offset, past the end too: a caller would have to cut the slice, with an arm for that.
 pub fn dot(rows: &[u8], at: usize, v: &[u8], n: usize) -> u8
     ensures value { result ≡ sum n (λ k. both (bits_from at rows.now k) (bits_of v.now k)) }
     ensures small { result < 2 }
 {
+    // Cut first: with `zip` and `take`, 166 million rows of 208 bytes take 54 s, and not 3.4 s.
     let row = rest(rows, at);
     let whole = n / 8;
     let tail = byte_of(row, whole) & byte_of(v, whole) & mask(n % 8);
     parity(products(first(row, whole), v) ^ tail)
 }
 
-// Adds the bytes from `at` on.
+// Adds the bytes from `at` on; `dot` says why the offset stands beside the slice.
 pub fn xor_row(rows: &[u8], at: usize, out: &mut [u8])
     ensures { (j : ℕ) → j < length out.new → slice_index out.new j ≡ bit_xor (slice_index out.old j) (slice_index rows.now (at + j)) }
 {
@@ -123,6 +128,7 @@ pub fn clear_pads(out: &mut [u8], n: usize)
     are_bytes(out);
     let r = n % 8;
     if r != 0 {
+        // By place: after `get_mut` or `last_mut` a proof knows nothing of what was written.
         out[n / 8] &= mask(r);
     }
 }

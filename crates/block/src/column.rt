@@ -59,7 +59,7 @@ impl BitSource for LentWords<'_, '_> {
         let m = self.slot.set.m as usize;
         let at = i / m;
         if at < self.words.len() {
-            ((self.words[at] >> (i % m)) % 2) as u8
+            u8::from((self.words[at] >> (i % m)) % 2 == 1)
         } else {
             0
         }

@@ -77,8 +77,8 @@ impl Key for SlotKey<'_> {
     }
 }
 
-// The memory that a matrix action works in: t words of m bits. What they held is secret, so they are
-// zero again when they are let go.
+// The memory that a matrix action works in: t words of m bits, cut from an array for the largest t, since
+// there is no heap. What they held is secret, so they are zero again when they are let go.
 struct LentWords<'k, 'w> {
     slot: &'k KeySlot,
     words: &'w mut [u16],

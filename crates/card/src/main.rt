@@ -20,6 +20,7 @@ const ROWS: usize = 8;
 
 const REST: usize = 4;
 
+// as in walkthrough: a program is read alone, and shares no crate of values with another
 const BLINDING: [u8; 8] = [0x03, 0x02, 0x04, 0x08, 0x10, 0x20, 0x40, 0x80];
 
 // The longest frame: kind, index and one byte of row.

@@ -15,7 +15,8 @@ use field::Field;
 use params::set::ParameterSet;
 use std::marker::PhantomData;
 
-// The bytes of a key of the set: as many as such a key has.
+// The bytes of a key of the set: as many as such a key has. The clauses name set and bytes, since what they
+// state is defined of these, for bytes that were not checked too.
 #[derive(Clone, Copy)]
 struct KeyBytes<'a> {
     set: ParameterSet,
@@ -100,6 +101,7 @@ impl KeyElements<'_> {
     fn first_repeat(&self) -> Option<usize>
         ensures { result ≡ found self.now.key.set.n (repeated_in (numbers self.now.key.set) self.now.key.bytes.now) }
     {
+        // for the largest set: the card has no heap
         let mut map = [0u8; 1024];
         let at = self.find_repeat(&mut map);
         // the map tells of the support

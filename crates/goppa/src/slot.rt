@@ -4,8 +4,8 @@ ghost use Rattle.goppa.specs.Keys.{Elements, Distinct, Rootless, Inverses};
 use params::set::ParameterSet;
 
 // The slot of the private key: the coefficients g_0 to g_(t-1), the support, and 1 / g at each
-// entry of the support. Support and inverses are two arrays, not one of pairs, since thirty-two entries
-// of each are taken at once.
+// entry of the support. The arrays have room for the largest set, since the card has no heap. Support and
+// inverses are two arrays, not one of pairs, since thirty-two entries of each are taken at once.
 #[derive(Drop)]
 pub struct KeySlot {
     pub set: ParameterSet,

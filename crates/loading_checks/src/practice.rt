@@ -66,7 +66,7 @@ fn try_case(rt: &HostRuntime, slot: &mut KeySlot, case: Case) -> io::Result<()> 
     }
 }
 
-// Column j, or why there is none.
+// Column j, or why there is none; as in walkthrough, which is read alone.
 fn show_column(rt: &HostRuntime, key: &SlotKey<'_>, j: usize, out: &mut [u8]) -> io::Result<()> {
     match key.column(j, out) {
         Ok(()) => {

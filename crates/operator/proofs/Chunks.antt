@@ -1,34 +1,51 @@
--- Rows taken one after another from a memory of whole rows. Assumes nothing.
-use Rattle.std.proofs.Common.{◌≡◌, ℕ, ◌+◌, ◌*◌, ◌<◌, ◌≤◌, List, ◌++◌, length, get_or, drop, sym, ap, ◌∙◌, inl, inr, suc-mul, add-one, arith, length-append, length-drop}
+-- Rows taken one after another from a memory of whole rows, and the sum of those where a vector has a 1. Assumes nothing.
+use Rattle.std.proofs.Common.{◌≡◌, ℕ, ◌+◌, ◌*◌, ◌<◌, ◌≤◌, cond, eqb, List, ◌++◌, length, get_or, drop, sym, ap, ◌∙◌, suc-mul, zero-mul, zero-add, add-one, arith, length-append, length-drop}
+use lib.Bits.{bit_xor}
 use Rattle.std.proofs.Math.Nat.{mul-le-mul_right}
 use Rattle.std.proofs.Math.Seq.{drop-append_seam}
-use Rattle.std.proofs.lemmas.Bool.{cases_lt}
+use Rattle.std.proofs.lemmas.Bool.{eq-eqb}
 use Rattle.std.proofs.lemmas.List.{get_or_append_left, get_or-drop, drop-drop}
+use Rattle.galois.specs.Bit.{bits}
+use Rattle.matrix.specs.Matrix.{sum, apply_row}
+use Rattle.bits.specs.Bits.{bits_of, bytes_for, of_rows, pack}
+use Rattle.bits.proofs.Bytes.{rows-combined}
 
-module _ (w i n : ℕ) (rows : List ℕ) (whole : length rows ≡ n * w) where
-  -- a row is left where there are bytes for one, and none where there are not
-  row-left : w ≤ length (drop (i * w) rows) → 0 < w → i < n
-  row-left h pos = elim (cases_lt i n) [
-    | inl l ↦ l
-    | inr l ↦ absurd (omega (arith, length-drop (i * w) rows, mul-le-mul_right w l))
-  ]
+-- of the n rows, the first `count` are summed up in `out` where v has a 1, and `rest` holds the others
+pub record Combined (n : ℕ) (rows v : List ℕ) (size : ℕ) (rest : List ℕ) (count : ℕ) (out : List ℕ) : Type 0 where
+  pub width : size ≡ bytes_for n
+  pub left : rest ≡ drop (count * bytes_for n) rows
+  pub within : count ≤ n
+  pub long : length out ≡ bytes_for n
+  pub bytes : (j : ℕ) → j < length out → get_or out j 0 ≡ sum count (λ k. bits_of v k * get_or rows (k * bytes_for n + j) 0)
 
-  pub no_row-left : length (drop (i * w) rows) < w → n ≤ i
-  no_row-left h = elim (cases_lt i n) [
-    | inl l ↦ let le : i + 1 ≤ n = omega arith in absurd (omega (arith, length-drop (i * w) rows, mul-le-mul_right w le, suc-mul i w, ap (λ k. k * w) (add-one i)))
-    | inr l ↦ l
-  ]
+pub combined-none : {n size count : ℕ} {rows v rest out : List ℕ} → size ≡ bytes_for n → rest ≡ rows → count ≡ 0 → length out ≡ bytes_for n
+    → ((j : ℕ) → j < length out → get_or out j 0 ≡ 0) → Combined n rows v size rest count out
+unfolding sum
+combined-none width left none long h = record { width = width; left = rw (none, zero-mul) left; within = omega arith; long = long; bytes = λ j l. rw none (h j l) }
 
-  -- the bytes of the row that comes next, and what is left after it
-  pub row-byte : (row rest : List ℕ) (j : ℕ) → drop (i * w) rows ≡ row ++ rest → length row ≡ w → j < w → get_or row j 0 ≡ get_or rows (i * w + j) 0
-  row-byte row rest j e l h = sym (get_or_append_left row rest 0 j (omega arith)) ∙ sym (ap (λ xs. get_or xs j 0) e) ∙ get_or-drop (i * w) rows j 0
+module _ {n size count : ℕ} {rows v rest out : List ℕ} (whole : length rows ≡ n * bytes_for n) (was : Combined n rows v size rest count out) where
+  -- the next row, and the bit b of v for it
+  pub combined-more : {size' count' i b : ℕ} (row : List ℕ) {rest' out' : List ℕ} → 0 < n → size' ≡ size → (rest ≡ row ++ rest') × (length row ≡ size) → i ≡ count → count' ≡ count + 1
+      → b ≡ bits_of v i → length out' ≡ length out → ((j : ℕ) → j < length out' → get_or out' j 0 ≡ bit_xor (get_or out j 0) (b * get_or row (0 + j) 0))
+      → Combined n rows v size' rest' count' out'
+  unfolding sum
+  combined-more row {rest'} some same cut place next bit long h =
+      let wide : length row ≡ bytes_for n = cut.1 ∙ was.width in
+      let parts : drop (count * bytes_for n) rows ≡ row ++ rest' = sym was.left ∙ cut.0 in
+      let lt : count < n = grind (arith, ap length parts, length-drop, length-append, mul-le-mul_right) in
+      record {
+        width = same ∙ was.width;
+        left = rw (next, add-one, suc-mul, ← drop-drop, parts, ← wide, drop-append_seam);
+        within = omega arith;
+        long = long ∙ was.long;
+        bytes = λ j l.
+            let in_row : j < length row = omega (arith, wide, long, was.long) in
+            let byte : get_or row (0 + j) 0 ≡ get_or rows (count * bytes_for n + j) 0 = rw (zero-add, ← get_or-drop, parts, get_or_append_left) in
+            rw (next, add-one, ← was.bytes j (omega arith), ← byte, ← place, ← bit) (h j l);
+      }
 
-  rows-left : (row rest : List ℕ) → drop (i * w) rows ≡ row ++ rest → length row ≡ w → rest ≡ drop ((i + 1) * w) rows
-  rows-left row rest e l =
-      sym (drop-append_seam row rest) ∙ ap (λ k. drop k (row ++ rest)) l ∙ ap (drop w) (sym e)
-      ∙ drop-drop w (i * w) rows ∙ ap (λ k. drop k rows) (sym (suc-mul i w)) ∙ ap (λ k. drop (k * w) rows) (sym (add-one i))
-
-  pub row-next : (row rest : List ℕ) (k : ℕ) → drop (i * w) rows ≡ row ++ rest → length row ≡ w → 0 < w → k ≡ i + 1 → (rest ≡ drop (k * w) rows) × (k ≤ n)
-  row-next row rest k e l pos next =
-      let lt : i < n = row-left (omega (arith, ap length e, length-append row rest)) pos in
-      (rows-left row rest e l ∙ ap (λ m. drop (m * w) rows) (sym next), omega arith)
+  pub combined-all : length rest < size → cond (eqb (length out) (bytes_for n)) (pack n (bits_of out)) out ≡ pack n (apply_row bits n (of_rows (bytes_for n) rows) (bits_of v))
+  combined-all short =
+      let last : n ≤ count = grind (arith, ap length was.left, was.width, length-drop, mul-le-mul_right, suc-mul, add-one) in
+      let end : count ≡ n = omega (arith, was.within) in
+      rw (eq-eqb (length out) (bytes_for n) was.long) (rows-combined n rows v out (λ j l. rw end at (was.bytes j (omega (arith, was.long)))))

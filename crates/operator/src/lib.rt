@@ -20,6 +20,8 @@ use refusal::told::{Layer, Refusal};
 // The largest N.
 pub const LARGEST: usize = 1664;
 
+// An action takes `v` and `out` as two parameters: both are lent for one call, one is read and one
+// written, and each is refused for its own length.
 pub trait Operator {
     // N and M
     ghost order: { Self → ℕ };

@@ -11,7 +11,7 @@ use super::{LARGEST, Operator, check_lengths};
 use bits::bytes_for;
 use guard::Wiped;
 
-// The bytes of the longest vector.
+// The bytes of the longest vector: there is no heap, so memory for one is cut from this.
 const LONGEST: usize = LARGEST / 8;
 
 // Where the sizes differ it is the 1 by 1 zero matrix.

@@ -27,6 +27,7 @@ fn set_of(row: Numbers) -> ParameterSet
 }
 
 // The set of a name: here a name meets its row of the table.
+// The names stand here and not in the table, since a match on them proves with no loop.
 pub fn find_set(name: &str) -> Result<ParameterSet, SetFault>
     ensures { numbers_or result ≡ named name.now }
 {
@@ -47,6 +48,7 @@ impl ParameterSet {
     pub fn practice12() -> ParameterSet
         ensures { numbers result ≡ practice12 }
     {
+        // by its row, as in find_set: with the name there would be a refusal to answer for
         set_of(SETS[0])
     }
 
@@ -54,6 +56,7 @@ impl ParameterSet {
     pub fn rows(self) -> usize
         ensures { result ≡ self.m * self.t }
     {
+        // m is a u32, as Rust counts bits, and usize has no From<u32>
         self.m as usize * self.t
     }
 

@@ -12,6 +12,7 @@ const REDUCER_12: u16 = 0b1_0000_0000_1001;
 const REDUCER_13: u16 = 0b10_0000_0001_1011;
 
 // The terms of the polynomials F(y): none, the constants 1, z and z^3, and powers of y.
+// Each is a constant of its own: the value of a constant, as the table is, may call no function.
 const NONE: Term = Term {
     power: 0,
     coefficient: 0,

@@ -15,6 +15,7 @@ pub enum Layer {
 #[derive(Clone, Copy, PartialEq, Eq)]
 pub struct Refusal {
     pub layer: Layer,
+    // of the table of refusals, which other makers read: a number stands where a layer tells its fault
     pub number: u8,
     pub place: u16,
 }

@@ -6,7 +6,7 @@ use Rattle.bits.specs.Bits.{bytes_for}
 use Rattle.key.specs.declared.sizes.Sizes.{Sizes}
 use Rattle.session.specs.declared.state.Answer.{Answer}
 use Rattle.session.specs.declared.fault.SessionFault.{SessionFault}
-use Rattle.session.specs.Table.{first, refused_by, Secret, Lent, product, row_in, memory_lines, frame_lines}
+use Rattle.session.specs.Table.{first, refused_by, Secret, Lent, lent, blinded, product, row_in, memory_lines, frame_lines}
 use Rattle.session.specs.Answers.{Stepped, Answered, either, unless, reply_of, refusal_reply, laid, laid_unless, rows_after, phase_after, inverse_after, granted}
 use Rattle.session.proofs.Steps.{refused-is, granted-is, first-kept, first-after, tried-refused, tried-granted}
 
@@ -16,6 +16,13 @@ same_rows own set order m h = grind (arith, nat_tests)
 
 pub reply-fits : (own set : Sizes) (order : ℕ) (m : Lent) → first (memory_lines own set order m) ≡ None → bytes_for set.rows + 3 ≤ m.reply
 reply-fits own set order m h = grind (arith, nat_tests)
+
+-- then there is room for a refusal
+pub refusal-fits : (own set : Sizes) (order inverse working reply : ℕ) (x : Unit {0}) → Ok x ≡ refused_by (first (memory_lines own set order (lent inverse working reply))) → 0 < set.rows → 4 ≤ reply
+refusal-fits own set order i w r x passed some =
+    let m = lent i w r in
+    let room = reply-fits own set order m (granted-is (first (memory_lines own set order m)) x passed) in
+    omega arith
 
 module _ (own : Sizes) (k : Secret) (phase taken : ℕ) (inverse : List ℕ) (m : Lent) (f old : List ℕ) where
   -- a memory does not fit
@@ -37,23 +44,19 @@ module _ (own : Sizes) (k : Secret) (phase taken : ℕ) (inverse : List ℕ) (m 
     fits : first (memory_lines own k.set k.order m) ≡ None
     fits = granted-is (first (memory_lines own k.set k.order m)) x passed
 
-    -- then there is room for a refusal
-    pub refusal-fits : 0 < k.set.rows → 4 ≤ m.reply
-    refusal-fits some = let room = reply-fits own k.set k.order m fits in omega arith
-
     -- the reply is that of the frame
     reply-is : either (first (frame_lines k.set.rows (product k) phase taken f)) (granted (product k) phase taken f) ≡ reply_of own k.set k.order (product k) phase taken m f
     reply-is = ap (λ o. unless o (either (first (frame_lines k.set.rows (product k) phase taken f)) (granted (product k) phase taken f))) (sym fits)
 
-    -- a step that R and B answer, and then the secret's
-    module _ (R : Mat) (B : List (List ℕ)) (same : R ≡ k.blinding) (whole : B ≡ product k) (phase' taken' : ℕ) (inverse' reply : List ℕ) where
-      step-is : (a : Result ℕ SessionFault) → Stepped own.rows R (frame_lines own.rows B phase taken f) (granted B phase taken f) phase taken inverse (row_in f) old a phase' taken' inverse' reply
+    -- a step that an n, R and H answer which are the secret's
+    module _ (n : ℕ) (R H : Mat) (ordered : n ≡ k.set.rows) (same : R ≡ k.blinding) (whole : H ≡ k.checks) (phase' taken' : ℕ) (inverse' reply : List ℕ) where
+      step-is : (a : Result ℕ SessionFault) → Stepped own.rows R (frame_lines own.rows (blinded n R H) phase taken f) (granted (blinded n R H) phase taken f) phase taken inverse (row_in f) old a phase' taken' inverse' reply
           → Stepped k.set.rows k.blinding (frame_lines k.set.rows (product k) phase taken f) (granted (product k) phase taken f) phase taken inverse (row_in f) old a phase' taken' inverse' reply
       step-is a s =
-          let P : ℕ → Mat → List (List ℕ) → Type 0 = λ n M C. Stepped n M (frame_lines n C phase taken f) (granted C phase taken f) phase taken inverse (row_in f) old a phase' taken' inverse' reply in
-          subst (λ n. P n k.blinding (product k)) (same_rows own k.set k.order m fits) (subst (P own.rows k.blinding) whole (subst (λ M. P own.rows M B) same s))
+          let P : ℕ → ℕ → Mat → Mat → Type 0 = λ r o M C. Stepped r M (frame_lines r (blinded o M C) phase taken f) (granted (blinded o M C) phase taken f) phase taken inverse (row_in f) old a phase' taken' inverse' reply in
+          subst (P k.set.rows k.set.rows k.blinding) whole (subst (λ M. P k.set.rows k.set.rows M H) same (subst (λ o. P k.set.rows o R H) ordered (subst (λ r. P r n R H) (same_rows own k.set k.order m fits) s)))
 
-      pub answered-granted : (l : ℕ) → Stepped own.rows R (frame_lines own.rows B phase taken f) (granted B phase taken f) phase taken inverse (row_in f) old (Ok l) phase' taken' inverse' reply
+      pub answered-granted : (l : ℕ) → Stepped own.rows R (frame_lines own.rows (blinded n R H) phase taken f) (granted (blinded n R H) phase taken f) phase taken inverse (row_in f) old (Ok l) phase' taken' inverse' reply
           → Answered own k phase taken inverse m f old (record { length = l; fault = None }) phase' taken' inverse' reply
       answered-granted l s =
           let r = granted (product k) phase taken f in
@@ -69,7 +72,7 @@ module _ (own : Sizes) (k : Secret) (phase taken : ℕ) (inverse : List ℕ) (m 
             memory = step.memory ∙ ap (λ y. inverse_after k.set.rows k.blinding taken (row_in f) y inverse) reply-is;
           }
 
-      pub answered-refused : (e : SessionFault) (a : Answer) (told : List ℕ) → Stepped own.rows R (frame_lines own.rows B phase taken f) (granted B phase taken f) phase taken inverse (row_in f) old (Err e) phase' taken' inverse' reply
+      pub answered-refused : (e : SessionFault) (a : Answer) (told : List ℕ) → Stepped own.rows R (frame_lines own.rows (blinded n R H) phase taken f) (granted (blinded n R H) phase taken f) phase taken inverse (row_in f) old (Err e) phase' taken' inverse' reply
           → a.fault ≡ Some e → a.length ≡ length (refusal_reply e) → told ≡ laid (refusal_reply e) reply
           → Answered own k phase taken inverse m f old a phase' taken' inverse' told
       answered-refused e a told s is-fault is-long is-told =

@@ -12,7 +12,8 @@ pub enum SessionFault {
     Inverse(usize),
     Working(usize),
     Reply(usize),
-    // 14, 15: a frame's kind, its length; 16: the phase
+    // 14, 15: a frame's kind, its length; 16: the phase, by the number that the refusal tells and that
+    // the definitions count with
     Kind(u8),
     Length(usize),
     Phase(u8),

@@ -41,7 +41,8 @@ impl TryFrom<u8> for Kind {
     }
 }
 
-// The length of a whole frame of a kind, for vectors of n bits; 1 where the kind is unknown.
+// The length of a whole frame of a kind, for vectors of n bits. An unknown kind is a frame of its own
+// one byte, which is refused: so there is always a length, and no Option.
 pub fn length_for(kind: u8, n: usize) -> usize
     ensures { result ≡ frame_length (bytes_for n) kind }
 {
@@ -56,10 +57,11 @@ pub fn length_for(kind: u8, n: usize) -> usize
 fn index_of(low: u8, high: u8) -> usize
     ensures { result ≡ word_of low high }
 {
-    u16::from_le_bytes([low, high]) as usize
+    usize::from(u16::from_le_bytes([low, high]))
 }
 
-// Reads a frame, for vectors of n bits. An empty one is of the unknown kind 0.
+// Reads a frame, for vectors of n bits. An empty one is refused as of kind 0, which the table of refusals
+// tells, so the fault has no case of its own for it.
 pub fn read<'a>(frame: &'a [u8], n: usize) -> Result<Frame<'a>, SessionFault>
     ensures { Reads (bytes_for n) frame.now result }
 {

@@ -63,9 +63,9 @@ impl Fault for SessionFault {
             SessionFault::Inverse(length) => Refusal::new(Layer::Session, 11, length),
             SessionFault::Working(length) => Refusal::new(Layer::Session, 12, length),
             SessionFault::Reply(length) => Refusal::new(Layer::Session, 13, length),
-            SessionFault::Kind(kind) => Refusal::new(Layer::Session, 14, kind as usize),
+            SessionFault::Kind(kind) => Refusal::new(Layer::Session, 14, usize::from(kind)),
             SessionFault::Length(length) => Refusal::new(Layer::Session, 15, length),
-            SessionFault::Phase(phase) => Refusal::new(Layer::Session, 16, phase as usize),
+            SessionFault::Phase(phase) => Refusal::new(Layer::Session, 16, usize::from(phase)),
             SessionFault::Index(index) => Refusal::new(Layer::Session, 17, index),
             SessionFault::Turn(next) => Refusal::new(Layer::Session, 18, next),
             SessionFault::Wrong(column) => Refusal::new(Layer::Session, 19, column),
@@ -98,6 +98,10 @@ fn check_lengths(n: usize, inverse: usize, working: usize) -> Result<(), Session
 }
 
 // An operator times a key's check matrix; its working memory is two vectors of n bits, a and b.
+// That a vector or the inverse memory is as long as n asks is said of each that is lent beside it: a type
+// for it would hold an n of its own, of which each call would ask that it is the product's. So with a
+// session's rows. That the set stays is said of each change of a session, whose types hold plain numbers. B is
+// written out in each clause, which so shows that it depends on operator and key.
 #[derive(Drop)]
 struct Product<'k, 'w, K: Key, O: Operator> {
     n: usize,

@@ -22,7 +22,9 @@ use operator::Operator;
 use refusal::Fault;
 use refusal::told::Refusal;
 
-// A reply, before it is written.
+// A reply, before it is written. Its kind's number stands where it is written and nowhere else, so the kinds
+// need no type of their own. Indices and counts are at most 1,664, so each cast that makes two bytes of one is
+// exact; a conversion that can fail would need an arm that no call reaches.
 #[derive(Drop)]
 enum Reply<'a> {
     Column { index: u16, body: &'a [u8] },
@@ -314,6 +316,7 @@ impl Open {
             (Phase::Receiving, Frame::Combination { body }) => self.take_combination(
                 product, body, reply,
             ),
+            // an arm for each: with one for both, the proof has the kinds of frames to take apart again
             (Phase::Complete, _) => Err(SessionFault::Phase(Phase::Complete.number())),
             (Phase::Singular, _) => Err(SessionFault::Phase(Phase::Singular.number())),
         }

@@ -50,8 +50,8 @@ pub struct StillOpen {
     pub fault: SessionFault,
 }
 
-// What a frame is answered: the length of the reply, and the refusal if there is one. A length and no
-// slice, which would keep the caller's memory lent.
+// What a frame is answered: the length of the reply, and the refusal if there is one. Both and no Result,
+// since a refusal has a reply too. A length and no slice, which would keep the caller's memory lent.
 #[derive(Clone, Copy)]
 pub struct Answer {
     pub length: usize,

@@ -15,7 +15,8 @@ use sink::key::PackedKey;
 use std::io;
 use words::{Hex, Words};
 
-// An open session, and what it is run with; the inverse memory is a byte longer than the session asks.
+// An open session, and what it is run with; the inverse memory is a byte longer than the session asks. As in
+// other programs, each of which is read alone.
 #[derive(Drop)]
 struct Bench<'a> {
     rt: &'a HostRuntime,

@@ -65,6 +65,7 @@ pub struct Columns<'a, L: Layout> {
     ghost blank: { (made ≡ true → Blank L.by_columns shape.size shape.limit taken bytes.now) },
 }
 
+// The clauses name the parts that a store is: a definition over the type would not show of which memory they speak.
 impl<'a, L: Layout> Columns<'a, L> {
     // What making or opening a store is refused by.
     pub fn check(bytes: &[u8], size: usize, limit: usize) -> Result<(), MakeFault>

@@ -7,9 +7,6 @@ use Rattle.galois.specs.Arith.{Arith}
 use Rattle.matrix.specs.Matrix.{Els}
 use Rattle.solver.specs.Cells.{element, entry, entries, Clean}
 
-pub place-lt : (n i j : ℕ) → i < n → j < n → i * n + j < n * n
-place-lt n i j hi hj = mul-add-lt i n j n hi hj
-
 same_row : (n a b i j : ℕ) → b < n → j < n → a * n + b ≡ i * n + j → a ≡ i
 same_row n a b i j hb hj e = sym (div-mul-add a n b hb) ∙ ap (λ x. x / n) e ∙ div-mul-add i n j hj
 
@@ -43,11 +40,11 @@ module _ {X : Type 0} (w : ℕ) (number : X → ℕ) where
   module _ (n : ℕ) (xs : List X) (i j : ℕ) (hi : i < n) (hj : j < n) where
     pub entries-read : (x : X) → length xs ≡ n * n → x ≡ get_or xs (i * n + j) x → element w number x ≡ entries w number n xs i j
     unfolding entries entry
-    entries-read x size e = ap (element w number) e ∙ entry_read xs (i * n + j) x (omega (arith, place-lt n i j hi hj))
+    entries-read x size e = ap (element w number) e ∙ entry_read xs (i * n + j) x (omega (arith, mul-add-lt i n j n hi hj))
 
     pub entries-set : (x : X) → length xs ≡ n * n → entries w number n (set xs (i * n + j) x) i j ≡ element w number x
     unfolding entries entry
-    entries-set x size = entry_set xs (i * n + j) x (omega (arith, place-lt n i j hi hj))
+    entries-set x size = entry_set xs (i * n + j) x (omega (arith, mul-add-lt i n j n hi hj))
 
     pub entries-other : (x : X) (a b : ℕ) → b < n → (a ≡ i → b ≡ j → ⊥) → entries w number n (set xs (i * n + j) x) a b ≡ entries w number n xs a b
     unfolding entries entry
@@ -84,13 +81,16 @@ module _ {X : Type 0} (w : ℕ) (number : X → ℕ) where
       ∙ sym (get_or-map (element w number) xs k d 0 l))
       ∙ set-get_or (map (element w number) xs) k 0
 
-  pub clean-set : (xs : List X) (i : ℕ) (x : X) → number x < 2 ^ w → Clean w number xs → Clean w number (set xs i x)
-  clean-set xs i x h e k d l =
-      let l' : k < length xs = rw length-set at l in
+  -- a cell of a list in which a clean cell was written
+  pub cell-clean : (xs : List X) (i k : ℕ) (x d : X) → k < length xs → number x < 2 ^ w → (k ≢ i → number (get_or xs k d) < 2 ^ w) → number (get_or (set xs i x) k d) < 2 ^ w
+  cell-clean xs i k x d l h other =
       elim (cases_eq k i) [
-        | inl q ↦ let li : i < length xs = omega arith in subst (λ y. number y < 2 ^ w) (sym (ap (λ z. get_or (set xs i x) z d) q ∙ get_or-set_same xs i x d li)) h
-        | inr q ↦ subst (λ y. number y < 2 ^ w) (sym (get_or-set_other xs i k x d q)) (e k d l')
+        | inl q ↦ rw (ap (λ z. get_or (set xs i x) z d) q ∙ get_or-set_same xs i x d (omega arith)) h
+        | inr ne ↦ rw (get_or-set_other xs i k x d ne) (other ne)
       ]
+
+  pub clean-set : (xs : List X) (i : ℕ) (x : X) → number x < 2 ^ w → Clean w number xs → Clean w number (set xs i x)
+  clean-set xs i x h e k d l = let l' : k < length xs = rw length-set at l in cell-clean xs i k x d l' h (λ _. e k d l')
 
   pub clean-zero : (xs : List X) → ((k : ℕ) (d : X) → k < length xs → number (get_or xs k d) ≡ 0) → Clean w number xs
   clean-zero xs h k d l = subst (λ v. v < 2 ^ w) (sym (h k d l)) (pow_pos w)

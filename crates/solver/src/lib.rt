@@ -18,7 +18,7 @@ pub const LARGEST: usize = 1664;
 // A table of size by size cells, row after row, over a lent slice.
 #[derive(Drop)]
 pub struct Table<'a, F: Field> {
-    cells: &'a mut [F],
+    cells: &'a mut [F::Cell],
     size: usize,
 }
 
@@ -46,7 +46,7 @@ impl Fault for SolveFault {
 }
 
 impl<'a, F: Field> Table<'a, F> {
-    pub fn new(cells: &'a mut [F], size: usize) -> Table<'a, F>
+    pub fn new(cells: &'a mut [F::Cell], size: usize) -> Table<'a, F>
         ensures size { result.size ≡ size }
         ensures cells { result.cells.now ≡ cells.old }
         ensures same { result.cells.ghost_name ≡ cells.entry.ghost_name }
@@ -68,25 +68,21 @@ impl<'a, F: Field> Table<'a, F> {
         if second.size != n || self.cells.len() != n * n || second.cells.len() != n * n {
             return Err(SolveFault::Size(n));
         }
-        Ok(eliminate(self.cells, second.cells, n))
+        Ok(eliminate::<F>(self.cells, second.cells, n))
     }
 }
 
 // Eliminates the first table, with each step made in the second too, which begins as the identity.
-fn eliminate<F: Field>(first: &mut [F], second: &mut [F], n: usize) -> Solved
+fn eliminate<F: Field>(first: &mut [F::Cell], second: &mut [F::Cell], n: usize) -> Solved
     requires size { (length first.old ≡ n * n) × (length second.old ≡ n * n) }
     requires small { n ≤ limit }
     ensures solves { Solves F.arith n (entries F.WIDTH F.number n first.old) (entries F.WIDTH F.number n second.new) result }
     ensures clean { Clean F.WIDTH F.number first.new × Clean F.WIDTH F.number second.new }
 {
-    let mut table = Square::cleaned(first, n);
-    let mut inverse = Square::cleaned(second, n);
+    let mut table: Square<'_, F> = Square::cleaned(first, n);
+    let mut inverse: Square<'_, F> = Square::cleaned(second, n);
     inverse.make_identity();
-    let mut pair = Pair {
-        first: &mut table,
-        second: &mut inverse,
-    };
-    let rank = pair.do_columns();
+    let rank = table.do_columns(&mut inverse);
     if rank < n {
         Solved::Dependent(rank)
     } else {
@@ -94,75 +90,13 @@ fn eliminate<F: Field>(first: &mut [F], second: &mut [F], n: usize) -> Solved
     }
 }
 
-// Two square tables of one order, in which elimination takes each step side by side.
-// They are borrowed: when a slice lent in a struct within a struct is given back, the proof is not
-// told what it holds.
-// Each step says that the orders and lent cells stay, for `&mut self` does not say it; a column is a
-// number of its own to each method, and a type for it would have to be held to the order just so.
-#[derive(Drop)]
-struct Pair<'p, 'q, 'a, 'b, F: Field> {
-    first: &'p mut Square<'a, F>,
-    second: &'q mut Square<'b, F>,
-    ghost alike: { second.now.order ≡ first.now.order },
-}
-
-impl<'p, 'q, 'a, 'b, F: Field> Pair<'p, 'q, 'a, 'b, F> {
-    ghost use Rattle.solver.specs.Squares.{matrix, Kept, Reaches, Clears};
-
-    // Deals with every column, and gives the number of pivots.
-    fn do_columns(&mut self) -> usize
-        ensures place { Kept self.old self.new }
-        ensures state { (M : Mat) → Reaches self.old M 0 0 → Reaches self.new M self.old.first.now.order result }
-    {
-        let mut r = 0;
-        // A step takes a column's number in two tables, so there is no slice to go over.
-        for c in 0..self.first.order() {
-            if let Some(p) = self.first.find_pivot(c, r) {
-                self.take_pivot(c, r, p);
-                r += 1;
-            }
-        }
-        r
-    }
-
-    // Brings row p, from r on, with the pivot of column c, to place r, and clears the column by it.
-    fn take_pivot(&mut self, c: usize, r: usize, p: usize)
-        requires within { (c < self.old.first.now.order) × (r ≤ p) × (p < self.old.first.now.order) }
-        requires pivot { matrix self.old.first.now p c ≢ 0 }
-        ensures place { Kept self.old self.new }
-        ensures state { (M : Mat) → Reaches self.old M c r → Reaches self.new M (c + 1) (r + 1) }
-    {
-        self.first.swap_rows(r, p);
-        self.second.swap_rows(r, p);
-        let v = self.first.get(r, c).inverse();
-        self.first.scale_row(r, v);
-        self.second.scale_row(r, v);
-        self.clear_column(c, r);
-    }
-
-    // Clears column c in every row but r, whose entry there is 1.
-    fn clear_column(&mut self, c: usize, r: usize)
-        requires within { (c < self.old.first.now.order) × (r < self.old.first.now.order) }
-        ensures place { Kept self.old self.new }
-        ensures state { (M : Mat) → Clears self.old M c r 0 → Reaches self.new M (c + 1) (r + 1) }
-    {
-        // By number, as the columns.
-        for i in 0..self.first.order() {
-            let s = self.first.get(i, c);
-            if i != r && !s.is_zero() {
-                self.first.add_row(i, r, s);
-                self.second.add_row(i, r, s);
-            }
-        }
-    }
-}
-
 // A table of n by n cells, row after row, in which no cell has bits above its element.
 // Not a Table: that takes cells and a size as they come, and refuses by them; here they fit.
-// Each method that writes says that order and lent cells stay, for `&mut self` does not say it.
+// Each method that writes says that order and lent cells stay, for `&mut self` does not say it; a
+// column is a number to each, and a type for it would have to be held to the order just so.
 #[derive(Drop)]
 struct Square<'a, F: Field> {
-    cells: &'a mut [F],
+    cells: &'a mut [F::Cell],
     order: usize,
     ghost square: { length cells.now ≡ order * order },
     ghost small: { order ≤ limit },
@@ -170,16 +104,16 @@ struct Square<'a, F: Field> {
 }
 
 impl<'a, F: Field> Square<'a, F> {
-    ghost use Rattle.solver.specs.Squares.{matrix, InPlace};
+    ghost use Rattle.solver.specs.Squares.{matrix, InPlace, Reaches, Clears};
 
     // The table of the elements that the cells mean.
-    fn cleaned(cells: &'a mut [F], order: usize) -> Square<'a, F>
+    fn cleaned(cells: &'a mut [F::Cell], order: usize) -> Square<'a, F>
         requires size { length cells.old ≡ order * order }
         requires small { order ≤ limit }
         ensures place { (result.order ≡ order) × (result.cells.ghost_name ≡ cells.entry.ghost_name) }
         ensures made { (i j : ℕ) → matrix result i j ≡ entries F.WIDTH F.number order cells.old i j }
     {
-        make_clean(cells);
+        make_clean::<F>(cells);
         Square { cells, order }
     }
 
@@ -190,7 +124,7 @@ impl<'a, F: Field> Square<'a, F> {
     {
         let n = self.order;
         let cells = &mut *self.cells;
-        make_zero(cells);
+        make_zero::<F>(cells);
         // By number: after iter_mut().step_by(n + 1), or chunks_exact_mut(n), a proof knows nothing of
         // what was written.
         for i in 0..n {
@@ -198,14 +132,50 @@ impl<'a, F: Field> Square<'a, F> {
         }
     }
 
-    fn order(&self) -> usize
-        ensures { result ≡ self.now.order }
+    // Deals with every column, each step made in the table beside too, and gives the number of pivots.
+    // The two tables have no type: the kit's borrow checker does not cover a struct of two borrowed
+    // tables whose cells are of the field's type, and of two owned ones the proof is not told what the
+    // slices hold when they are given back.
+    fn do_columns(&mut self, beside: &mut Square<'_, F>) -> usize
+        requires alike { beside.old.order ≡ self.old.order }
+        ensures place { InPlace self.old self.new × InPlace beside.old beside.new }
+        ensures state { (M : Mat) → Reaches self.old beside.old M 0 0 → Reaches self.new beside.new M self.old.order result }
     {
-        self.order
+        let mut r = 0;
+        // A step takes a column's number in two tables, so there is no slice to go over.
+        for c in 0..self.order {
+            if let Some(p) = self.find_pivot(c, r) {
+                self.swap_rows(r, p);
+                beside.swap_rows(r, p);
+                let v = F::inverse(self.get(r, c));
+                self.scale_row(r, v);
+                beside.scale_row(r, v);
+                self.clear_column(beside, c, r);
+                r += 1;
+            }
+        }
+        r
+    }
+
+    // Clears column c in every row but r, whose entry there is 1.
+    fn clear_column(&mut self, beside: &mut Square<'_, F>, c: usize, r: usize)
+        requires within { (c < self.old.order) × (r < self.old.order) }
+        requires alike { beside.old.order ≡ self.old.order }
+        ensures place { InPlace self.old self.new × InPlace beside.old beside.new }
+        ensures state { (M : Mat) → Clears self.old beside.old M c r 0 → Reaches self.new beside.new M (c + 1) (r + 1) }
+    {
+        // By number, as the columns.
+        for i in 0..self.order {
+            let s = self.get(i, c);
+            if i != r && !F::is_zero(s) {
+                self.add_row(i, r, s);
+                beside.add_row(i, r, s);
+            }
+        }
     }
 
     // Row i, column j.
-    fn get(&self, i: usize, j: usize) -> F
+    fn get(&self, i: usize, j: usize) -> F::Cell
         requires within { (i < self.now.order) × (j < self.now.order) }
         ensures { element F.WIDTH F.number result ≡ matrix self.now i j }
     {
@@ -217,7 +187,7 @@ impl<'a, F: Field> Square<'a, F> {
         requires within { c < self.now.order }
         ensures { MatchOption result ((a : ℕ) → r ≤ a → a < self.now.order → matrix self.now a c ≡ 0) (λ p. (r ≤ p) × (p < self.now.order) × (matrix self.now p c ≢ 0) × ((a : ℕ) → r ≤ a → a < p → matrix self.now a c ≡ 0)) }
     {
-        (r..self.order).find(|p| !self.get(*p, c).is_zero())
+        (r..self.order).find(|p| !F::is_zero(self.get(*p, c)))
     }
 
     fn swap_rows(&mut self, i: usize, r: usize)
@@ -235,17 +205,17 @@ impl<'a, F: Field> Square<'a, F> {
     }
 
     // Multiplies row i by s.
-    fn scale_row(&mut self, i: usize, s: F)
+    fn scale_row(&mut self, i: usize, s: F::Cell)
         requires within { i < self.old.order }
         ensures place { InPlace self.old self.new }
         ensures made { Same self.old.order (matrix self.new) (scale_row F.arith i (element F.WIDTH F.number s) (matrix self.old)) }
     {
         let n = self.order;
-        scale(&mut self.cells[i * n..i * n + n], s);
+        scale::<F>(&mut self.cells[i * n..i * n + n], s);
     }
 
     // Adds s times row r to row i.
-    fn add_row(&mut self, i: usize, r: usize, s: F)
+    fn add_row(&mut self, i: usize, r: usize, s: F::Cell)
         requires within { (i < self.old.order) × (r < self.old.order) }
         requires apart { i ≢ r }
         ensures place { InPlace self.old self.new }
@@ -255,57 +225,57 @@ impl<'a, F: Field> Square<'a, F> {
         let cells = &mut *self.cells;
         if i < r {
             let (low, high) = cells.split_at_mut(r * n);
-            add_scaled(&mut low[i * n..i * n + n], &high[..n], s);
+            add_scaled::<F>(&mut low[i * n..i * n + n], &high[..n], s);
         } else {
             let (low, high) = cells.split_at_mut(i * n);
-            add_scaled(&mut high[..n], &low[r * n..r * n + n], s);
+            add_scaled::<F>(&mut high[..n], &low[r * n..r * n + n], s);
         }
     }
 }
 
 // Multiplies a row by s.
-fn scale<F: Field>(row: &mut [F], s: F)
+fn scale<F: Field>(row: &mut [F::Cell], s: F::Cell)
     ensures made { (k : ℕ) → k < length row.old → entry F.WIDTH F.number row.new k ≡ F.arith.mul (element F.WIDTH F.number s) (entry F.WIDTH F.number row.old k) }
     ensures clean { Clean F.WIDTH F.number row.new }
 {
     for x in row.iter_mut() {
-        *x = s.times(*x);
+        *x = F::times(s, *x);
     }
 }
 
 // Adds s times another row to a row. The other is copied first: of two lent rows the compiler does
 // not know that they are apart, and would add cell by cell. Solving a table of 1,664 rows of bits
 // would then take 3 s instead of 0.5 s, measured on a Xeon at 2.5 GHz.
-fn add_scaled<F: Field>(row: &mut [F], other: &[F], s: F)
+fn add_scaled<F: Field>(row: &mut [F::Cell], other: &[F::Cell], s: F::Cell)
     requires alike { length row.old ≡ length other.now }
     requires small { length other.now ≤ limit }
     ensures made { (k : ℕ) → k < length row.old → entry F.WIDTH F.number row.new k ≡ bit_xor (entry F.WIDTH F.number row.old k) (F.arith.mul (element F.WIDTH F.number s) (entry F.WIDTH F.number other.now k)) }
     ensures clean { Clean F.WIDTH F.number row.new }
 {
     let mut copy = [F::of(0); LARGEST];
-    // Not by copy_from_slice: that a slice of so many F fits in memory is not known of every F.
+    // Not by copy_from_slice: that a slice of so many cells fits in memory is not known of every cell.
     for (k, x) in other.iter().enumerate() {
         copy[k] = *x;
     }
     // By number: after a loop over iter_mut().zip(..) a proof knows nothing of what was written.
     for (j, x) in row.iter_mut().enumerate() {
-        *x = x.plus(s.times(copy[j]));
+        *x = F::plus(*x, F::times(s, copy[j]));
     }
 }
 
 // Takes off the bits above the elements.
-fn make_clean<F: Field>(cells: &mut [F])
+fn make_clean<F: Field>(cells: &mut [F::Cell])
     ensures made { (n i j : ℕ) → entries F.WIDTH F.number n cells.new i j ≡ entries F.WIDTH F.number n cells.old i j }
     ensures clean { Clean F.WIDTH F.number cells.new }
 {
     for x in cells.iter_mut() {
-        *x = F::of(x.get());
+        *x = F::of(F::get(*x));
     }
 }
 
-// Not by fill: that a Clone of F cannot fail is not known of every F.
-fn make_zero<F: Field>(cells: &mut [F])
-    ensures zero { (k : ℕ) (d : F) → k < length cells.new → F.number (slice_index_or cells.new k d) ≡ 0 }
+// Not by fill: that a Clone of a cell cannot fail is not known of every cell.
+fn make_zero<F: Field>(cells: &mut [F::Cell])
+    ensures zero { (k : ℕ) (d : F.Cell) → k < length cells.new → F.number (slice_index_or cells.new k d) ≡ 0 }
 {
     for x in cells.iter_mut() {
         *x = F::of(0);

@@ -92,52 +92,52 @@ fn dense(heap: Global, n: usize) -> Result<Vec<u8>, AllocError> {
 }
 
 // A table of n by n bits, all 0.
-fn blank(heap: Global, n: usize) -> Result<Vec<Bit>, AllocError> {
-    vec![in heap; Bit { value: 0 }; n.saturating_mul(n)]
+fn blank(heap: Global, n: usize) -> Result<Vec<u8>, AllocError> {
+    vec![in heap; 0u8; n.saturating_mul(n)]
 }
 
-// Puts a packed column into column j of a table of n columns.
-fn keep_column(table: &mut [Bit], n: usize, j: usize, column: &[u8])
+// Puts a packed column into column j of a table of n columns. Table and order are two, as the solver takes them.
+fn keep_column(table: &mut [u8], n: usize, j: usize, column: &[u8])
     requires { 0 < n }
 {
     for (i, row) in table.chunks_mut(n).enumerate() {
         if let Some(cell) = row.get_mut(j) {
-            *cell = Bit {
-                value: get_bit(column, i),
-            };
+            *cell = get_bit(column, i);
         }
     }
 }
 
 // Solves the first table with the second one, which then holds the inverse if there is one.
-fn invert(first: &mut [Bit], second: &mut [Bit], n: usize) -> Result<Solved, SolveFault> {
-    let mut from = Table::new(first, n);
-    let mut into = Table::new(second, n);
+fn invert(first: &mut [u8], second: &mut [u8], n: usize) -> Result<Solved, SolveFault> {
+    let mut from = Table::<Bit>::new(first, n);
+    let mut into = Table::<Bit>::new(second, n);
     from.solve(&mut into)
 }
 
 // Eight cells as a byte, the first one in its lowest bit.
-fn packed(eight: &[Bit]) -> u8 {
+fn packed(eight: &[u8]) -> u8 {
     eight
         .iter()
         .rev()
-        .fold(0, |byte, cell| (byte << 1) | (cell.value & 1))
+        .fold(0, |byte, cell| (byte << 1) | (cell & 1))
 }
 
-// A frame begins with its kind and an index, the low byte first; these are the kinds that are sent.
+// A frame begins with its kind and an index, the low byte first; these are the kinds that are sent. Bytes, as
+// the format gives them: the library's type of kinds is what it reads, and no part of what is sent.
 const COLUMN: u8 = 0x11;
 
 const ROW: u8 = 0x12;
 
 // The frame of row i.
-fn row_frame(heap: Global, i: usize, row: &[Bit]) -> Result<Vec<u8>, AllocError> {
+fn row_frame(heap: Global, i: usize, row: &[u8]) -> Result<Vec<u8>, AllocError> {
     let [low, high, ..] = i.to_le_bytes();
     let mut frame = vec![in heap; ROW, low, high]?;
     frame.extend(row.chunks(8).map(packed))?;
     Ok(frame)
 }
 
-// A session under way, and what a card keeps beside it.
+// A session under way, and what a card keeps beside it. Other programs have a bench of their own: each is read
+// alone, and tries something else.
 #[derive(Drop)]
 struct Bench<'a> {
     heap: Global,
@@ -164,7 +164,7 @@ impl Bench<'_> {
     }
 
     // Asks all columns into a table.
-    fn ask(&mut self, n: usize) -> anyhow::Result<Vec<Bit>> {
+    fn ask(&mut self, n: usize) -> anyhow::Result<Vec<u8>> {
         let mut table = blank(self.heap, n)?;
         for j in 0..n {
             let [low, high, ..] = j.to_le_bytes();
@@ -176,7 +176,7 @@ impl Bench<'_> {
     }
 
     // Sends the rows of a table; how many were taken. A loop counts, since making a frame may fail.
-    fn send_rows(&mut self, table: &[Bit], n: usize) -> Result<usize, AllocError>
+    fn send_rows(&mut self, table: &[u8], n: usize) -> Result<usize, AllocError>
         requires { 0 < n }
     {
         let mut taken = 0usize;
@@ -212,7 +212,7 @@ impl Bench<'_> {
     }
 }
 
-// Publishes k columns; how many went through. A loop, since each round publishes: it does more than count.
+// Publishes k columns, as card does; how many went through. A loop, since each round publishes: it does more than count.
 fn publish(
     key: &SlotKey<'_>,
     ready: &mut Ready,

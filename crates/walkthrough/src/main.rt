@@ -46,7 +46,7 @@ const LATE: [&[u8]; 2] = [&[0x14], &[0x12, 7, 0, 0x3b]];
 // Claims that B is singular: by nothing, by a wrong combination, by a right one; the status.
 const CLAIMS: [&[u8]; 4] = [&[0x13, 0], &[0x13, 1], &[0x13, 3], &[0x14]];
 
-// A session under way, and what a card keeps beside it.
+// A session under way, and what a card keeps beside it; as in other programs, each of which is read alone.
 #[derive(Drop)]
 struct Bench<'a> {
     rt: &'a HostRuntime,
@@ -144,10 +144,12 @@ impl<'a> Bench<'a> {
     }
 }
 
+// as in session_checks, in words of its own
 fn explain<F: Fault>(rt: &HostRuntime, fault: F) -> io::Result<()> {
     println!(rt; "      {}", Words::from(fault))
 }
 
+// as in loading_checks, which tries wrong columns too
 fn show_column(rt: &HostRuntime, key: &SlotKey<'_>, j: usize) -> io::Result<()> {
     let mut column = [0u8; 1];
     let _ = key.column(j, &mut column);

@@ -1,4 +1,4 @@
-use Rattle.std.proofs.Common.{◌%◌, ◌^◌, ◌<◌, ◌≤◌, sym, ap, arith, pow_mono}
+use Rattle.std.proofs.Common.{◌^◌, ◌<◌, ◌≤◌, arith, pow_mono}
 use native.Mathlib.Nat.{div-eq_of_lt}
 use Rattle.bits.specs.Bits.{bit_of}
 use Rattle.bits.proofs.bit_of.Goals as goal
@@ -9,4 +9,4 @@ returns-else-k-lt8 c =
     let eight : 8 ≤ c.args.k = omega arith in
     let high : 2 ^ 8 ≤ 2 ^ c.args.k = pow_mono eight in
     let low : c.args.b < 2 ^ c.args.k = omega arith in
-    record { value = sym (ap (λ x. x % 2) (div-eq_of_lt low)); small = omega arith }
+    record { value = rw div-eq_of_lt; small = omega arith }

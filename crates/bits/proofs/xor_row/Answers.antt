@@ -1,5 +1,5 @@
-use Rattle.std.proofs.Common.{◌≡◌, ◌+◌, length, get_or, take, sym, ap, ◌∙◌, inl, inr, arith}
-use lib.Bits.{bit_xor, xor_zero_r}
+use Rattle.std.proofs.Common.{◌≡◌, ◌+◌, ◌<◌, ◌≤◌, length, get_or, inl, inr, arith}
+use lib.Bits.{xor_zero_r}
 use Rattle.std.proofs.lemmas.Bool.{cases_lt}
 use Rattle.std.proofs.lemmas.List.{get_or_past}
 use Rattle.bits.proofs.Bytes.{part-byte}
@@ -7,14 +7,10 @@ use Rattle.bits.proofs.xor_row.Goals as goal
 
 pub returns : goal.returns
 returns c j l =
-    let old = c.args.out.now in
-    let rows = c.args.rows.now in
     let row = c.first-row.result.now in
-    let same : get_or row j 0 ≡ get_or rows (c.args.at + j) 0 =
-    ap (λ r. get_or r j 0) (c.first-row.ensures ∙ ap (take (length old)) c.rest.ensures) ∙ part-byte rows c.args.at (length old) j (omega arith) in
+    let in_out : j < length c.args.out.now = omega arith in
+    let same : get_or row j 0 ≡ get_or c.args.rows.now (c.args.at + j) 0 = rw (c.first-row.ensures, c.rest.ensures, part-byte) in
     elim (cases_lt j c.loop-j.j) [
-      | inl h ↦ c.loop-j.invariant.0 j h ∙ ap (bit_xor (get_or old j 0)) same
-      | inr h ↦
-          let none : get_or rows (c.args.at + j) 0 ≡ 0 = sym same ∙ get_or_past row j 0 (omega arith) in
-          c.loop-j.invariant.1 j h ∙ sym (ap (bit_xor (get_or old j 0)) none ∙ xor_zero_r (get_or old j 0))
+      | inl h ↦ rw (c.loop-j.invariant.0 j h, same)
+      | inr h ↦ let past : length row ≤ j = omega arith in rw (c.loop-j.invariant.1 j h, ← same, get_or_past row j 0 past, xor_zero_r)
     ]

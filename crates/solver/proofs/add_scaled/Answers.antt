@@ -1,7 +1,7 @@
 use Rattle.std.proofs.Common.{◌<◌, length, ◌∙◌, ap, ap₂, arith, below_more}
 use lib.Bits.{bit_xor}
 use Rattle.std.proofs.lemmas.List.{length-set}
-use Rattle.solver.specs.Cells.{element, entry}
+use Rattle.solver.specs.Cells.{element}
 use Rattle.solver.proofs.Grid.{entry_read, entry_set, entry_other}
 use Rattle.solver.proofs.Rows.{done-more}
 use Rattle.solver.proofs.add_scaled.Goals as goal
@@ -31,13 +31,4 @@ loop-j-preserved g c =
       long = c.loop-j.invariant.long;
       done = done-more f.WIDTH f.number _ c.args.row.now c.loop-j.row j c.plus.result (omega arith)
           (c.plus.ensures.element ∙ ap₂ bit_xor x (c.times.ensures.element ∙ ap (f.arith.mul s) y)) c.plus.ensures.clean c.loop-j.invariant.done;
-    }
-
-pub returns : goal.returns
-returns g c =
-    let f = g.F.Field in
-    let s = element f.WIDTH f.number c.args.s in
-    record {
-      made = λ k h. c.loop-j.invariant.done.done k (omega arith) ∙ ap (λ v. bit_xor (entry f.WIDTH f.number c.args.row.now k) (f.arith.mul s v)) (c.loop-k.invariant.made k (omega arith));
-      clean = λ k d h. c.loop-j.invariant.done.clean k d (omega arith);
     }

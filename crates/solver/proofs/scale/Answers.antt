@@ -10,9 +10,3 @@ loop-x-preserved g c =
     let read = entry_read f.WIDTH f.number c.loop-x.row c.loop-x.x-index c.x-item.result (omega arith) ∙ c.loop-x.invariant.rest c.loop-x.x-index (omega arith) in
     done-more f.WIDTH f.number _ c.args.row.now c.loop-x.row c.loop-x.x-index c.times.result (omega arith)
     (c.times.ensures.element ∙ ap (f.arith.mul (element f.WIDTH f.number c.args.s)) read) c.times.ensures.clean c.loop-x.invariant
-
-pub returns : goal.returns
-returns g c = record {
-  made = λ k h. c.loop-x.invariant.done k (omega arith);
-  clean = λ k d h. c.loop-x.invariant.clean k d (omega arith);
-}

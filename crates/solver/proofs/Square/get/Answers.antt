@@ -1,12 +1,13 @@
 use Rattle.std.proofs.Common.{◌+◌, ◌*◌, ◌<◌, length, sym, ap, ◌∙◌, arith, rules}
+use Rattle.std.proofs.lemmas.Nat.{mul-add-lt}
 use Rattle.solver.specs.Cells.{element}
-use Rattle.solver.proofs.Grid.{place-lt, entries-read}
+use Rattle.solver.proofs.Grid.{entries-read}
 use Rattle.solver.proofs.Square.get.Goals as goal
 
 pub offset_bounds-self-i : goal.offset_bounds-self-i
 offset_bounds-self-i g c =
     let s = c.args.self.now in
-    let q : c.args.i * s.order + c.args.j < length s.cells.now = omega (arith, place-lt s.order c.args.i c.args.j c.requires.within.0 c.requires.within.1, s.square) in
+    let q : c.args.i * s.order + c.args.j < length s.cells.now = omega (arith, mul-add-lt c.args.i s.order c.args.j s.order c.requires.within.0 c.requires.within.1, s.square) in
     search rules
 
 pub returns : goal.returns

@@ -1,5 +1,6 @@
 use Rattle.std.proofs.Common.{◌+◌, ◌*◌, ◌%◌, ◌^◌, ◌<◌, length, sym, ap, ◌∙◌, subst, arith, rules}
-use Rattle.solver.proofs.Grid.{place-lt, entries-set, entries-other, clean-set, entries-zero, clean-zero, low-lt, low-low, one-low}
+use Rattle.std.proofs.lemmas.Nat.{mul-add-lt}
+use Rattle.solver.proofs.Grid.{entries-set, entries-other, clean-set, entries-zero, clean-zero, low-lt, low-low, one-low}
 use Rattle.solver.proofs.Loops.{unit-more}
 use Rattle.solver.proofs.Square.make_identity.Goals as goal
 
@@ -8,7 +9,7 @@ offset_bounds-cells-i g c =
     let n = c.args.self.now.order in
     let i = c.loop-i.i in
     let lt = c.loop-i-test.true in
-    let q : i * n + i < length c.loop-i.cells = omega (arith, place-lt n i i lt lt, c.args.self.now.square, c.make_zero.auto.cells, c.loop-i.auto.cells) in
+    let q : i * n + i < length c.loop-i.cells = omega (arith, mul-add-lt i n i n lt lt, c.args.self.now.square, c.make_zero.auto.cells, c.loop-i.auto.cells) in
     search rules
 
 pub loop-i-init : goal.loop-i-init
@@ -28,7 +29,7 @@ loop-i-preserved g c =
     let n = c.args.self.now.order in
     let i = c.loop-i.i in
     let lt = c.loop-i-test.true in (
-      unit-more n _ _ i _ lt (ap (λ v. v % 2 ^ w) c.of.ensures ∙ low-low w 1 ∙ one-low f.arith w g.met.F.Field.wide)
+      unit-more n _ _ i _ lt (ap (λ v. v % 2 ^ w) c.of.ensures ∙ low-low w 1 ∙ one-low f.arith w g.met.F.Field.laws.wide)
           (entries-set w f.number n c.loop-i.cells i i lt lt c.of.result (c.loop-i.auto.cells ∙ c.make_zero.auto.cells ∙ c.args.self.now.square))
           (λ a b ha hb ne. entries-other w f.number n c.loop-i.cells i i lt lt c.of.result a b hb ne) c.loop-i.invariant.0,
       clean-set w f.number c.loop-i.cells _ c.of.result (subst (λ v. v < 2 ^ w) (sym c.of.ensures) (low-lt w 1)) c.loop-i.invariant.1,

@@ -1,8 +1,8 @@
-use Rattle.std.proofs.Common.{◌<◌, refl, sym, ap, ◌∙◌, inl, inr, arith}
+use Rattle.std.proofs.Common.{sym, ap, ◌∙◌, inl, inr, arith}
 use Rattle.std.proofs.lemmas.Bool.{cases_eq}
 use Rattle.matrix.proofs.Rows.{swap-rows-first, swap-rows-off}
 use Rattle.solver.specs.Squares.{matrix}
-use Rattle.solver.proofs.Rows.{swapped-size, swapped-clean, row-swapped}
+use Rattle.solver.proofs.Rows.{halves, swap-clean, row-swapped}
 use Rattle.solver.proofs.Square.swap_rows.Goals as goal
 
 pub returns-then-i-r-clause-made : goal.returns-then-i-r-clause-made
@@ -13,24 +13,14 @@ returns-then-i-r-clause-made g c a j ha hj =
       | inr ne ↦ sym (swap-rows-off c.args.i c.args.r M a j ne (λ e. ne (e ∙ sym c.if-i-r.true)))
     ]
 
-pub invariant_of-self : goal.invariant_of-self
-invariant_of-self g c =
-    let f = g.F.Field in
-    let t = c.args.self.now in
+pub invariant_of-self-clause-clean : goal.invariant_of-self-clause-clean
+invariant_of-self-clause-clean g c =
     let p = c.split_at_mut-low.ensures in
     let q = c.swap_with_slice.ensures in
-    let lt : c.args.i < c.args.r = omega arith in
-    record {
-      square = swapped-size f.WIDTH f.number t.order t.cells.now _ _ c.args.r p.value p.front_len c.requires.within.1 t.square c.args.i _ lt (omega arith) c.swap_with_slice.new.other c.swap_with_slice.new.self _ refl q.other_after q.after;
-      small = t.small;
-      clean = swapped-clean f.WIDTH f.number t.order t.cells.now _ _ c.args.r p.value p.front_len c.requires.within.1 t.square c.args.i _ lt (omega arith) c.swap_with_slice.new.other c.swap_with_slice.new.self _ refl q.other_after q.after t.clean;
-    }
+    swap-clean c.args.self.now (halves p.value p.front_len (omega arith)) c.requires.within.1 q.other_after q.after
 
 pub returns-clause-made : goal.returns-clause-made
 returns-clause-made g c =
-    let f = g.F.Field in
-    let t = c.args.self.now in
     let p = c.split_at_mut-low.ensures in
     let q = c.swap_with_slice.ensures in
-    let lt : c.args.i < c.args.r = omega arith in
-    row-swapped f.WIDTH f.number t.order t.cells.now _ _ c.args.r p.value p.front_len c.requires.within.1 t.square c.args.i _ lt (omega arith) c.swap_with_slice.new.other c.swap_with_slice.new.self _ refl q.other_after q.after
+    row-swapped c.args.self.now (halves p.value p.front_len (omega arith)) c.requires.within.1 q.other_after q.after

@@ -1,4 +1,5 @@
-use Rattle.std.proofs.Common.{◌/◌, ◌%◌, sym, refl, ap, ◌∙◌, arith}
+use Rattle.std.proofs.Common.{◌/◌, ◌%◌, sym, ap, ◌∙◌, arith}
+use Rattle.std.proofs.lemmas.Bool.Decides.{nat_tests}
 use Rattle.std.proofs.lemmas.List.{get_or_past}
 use Rattle.bits.specs.Bits.{bit_of}
 use Rattle.bits.proofs.Packs.{bit-zero}
@@ -6,7 +7,7 @@ use Rattle.block.proofs.column.LentWordsBitSource.bit.Goals as goal
 
 pub returns-then-at-self-clause-value : goal.returns-then-at-self-clause-value
 unfolding bit_of
-returns-then-at-self-clause-value c = refl
+returns-then-at-self-clause-value c = grind (arith, nat_tests)
 
 pub returns-else-at-self-clause-value : goal.returns-else-at-self-clause-value
 returns-else-at-self-clause-value c =

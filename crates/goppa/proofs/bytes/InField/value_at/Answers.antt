@@ -12,7 +12,7 @@ loop-i-init g c =
 pub loop-i-preserved : goal.loop-i-preserved
 loop-i-preserved g c =
     let f = g.F.Field in
-    let l = g.met.F.Field in
+    let l = g.met.F.Field.laws in
     let same = c.args.self.now.same in
     let key = c.args.self.now.elements.key in
     upper-step f.arith key.set.m key.set.f (l.wide ∙ same.0) (λ x y. l.product x y ∙ ap₂ (λ m r. times m r x y) same.0 same.1)
