@@ -1,14 +1,17 @@
-// The published vectors: for each real set the private key is loaded, a session is run to its end,
-// and every byte of the packed public key is compared with the published one.
+// The worked examples that are run, and the published vectors: for each real set g is made anew and compared with the private key's, the key is
+// loaded, a session is run to its end, and every byte of the packed public key is compared with the published one.
 // The rows are prepared by solving, the blinding is made here, dense and the same in every run.
 #![tactic(auto)]
 
 ghost use Rattle.std.specs.Prelude.{◌<◌};
 
+mod examples;
+
 use bits::{bytes_for, get_bit, xor_row};
 use block::SlotKey;
 use field::{Bit, Field};
 use goppa::slot::KeySlot;
+use maker::make;
 use operator::stored::StoredMatrix;
 use session::fault::SessionFault;
 use session::state::{Open, Ready};
@@ -230,6 +233,23 @@ fn publish(
     sent
 }
 
+// Makes g from the published element of degree t, and compares it with the first t entries of the key.
+fn remake(rt: &HostRuntime, name: &str, t: usize, key: &[u8]) -> anyhow::Result<()> {
+    let heap = rt.alloc();
+    let beta = fs::read(rt, format!(in heap; "{name}-0.beta")?.as_str())?;
+    let mut powers = vec![in heap; 0u16; t.saturating_mul(t)]?;
+    let mut inverse = vec![in heap; 0u16; t.saturating_mul(t)]?;
+    let mut goppa = vec![in heap; 0u8; t.saturating_mul(2)]?;
+    let made = make(name, &beta, &mut powers, &mut inverse, &mut goppa);
+    let verdict = if made.is_ok() && key.starts_with(&goppa) {
+        "ok"
+    } else {
+        "DIFFERS"
+    };
+    println!(rt; "{name}: g of degree {t} made from its element {verdict}")?;
+    Ok(())
+}
+
 fn run_set(rt: &HostRuntime, name: &str) -> anyhow::Result<()> {
     let heap = rt.alloc();
     let bytes = fs::read(rt, format!(in heap; "{name}-0.key")?.as_str())?;
@@ -239,6 +259,7 @@ fn run_set(rt: &HostRuntime, name: &str) -> anyhow::Result<()> {
         println!(rt; "{name}: the key is refused")?;
         return Ok(());
     }
+    remake(rt, name, slot.set.t, &bytes)?;
     let n = slot.set.rows();
     let key = SlotKey { slot: &slot };
     let rows = dense(heap, n)?;
@@ -262,6 +283,7 @@ fn run_set(rt: &HostRuntime, name: &str) -> anyhow::Result<()> {
 }
 
 fn main(rt: HostRuntime) -> anyhow::Result<()> {
+    examples::run(&rt)?;
     for name in SETS {
         run_set(&rt, name)?;
     }

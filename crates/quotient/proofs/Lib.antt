@@ -1,0 +1,4 @@
+pub mod Steps
+pub mod Ring
+pub mod Roots
+pub mod Terms

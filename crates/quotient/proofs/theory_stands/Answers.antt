@@ -1,0 +1,5 @@
+use Rattle.quotient.proofs.Ring.{ring}
+use Rattle.quotient.proofs.theory_stands.Goals as goal
+
+pub returns : goal.returns
+returns c = record { ring = ring }
