@@ -1,5 +1,5 @@
 // A card makes a public key, told in plain words and hexadecimal: one session to its end, with wrong
-// frames in between, and one whose blinded matrix has no inverse.
+// frames in between, and one whose blinded matrix has no inverse. Then our host does the same against the card.
 #![tactic(auto)]
 
 use block::SlotKey;
@@ -7,6 +7,8 @@ use goppa::slot::KeySlot;
 use key::Key;
 use operator::stored::StoredMatrix;
 use refusal::Fault;
+use runs::calls::{Call, Event};
+use runs::run;
 use session::state::{Open, Ready};
 use sink::Sink;
 use sink::key::PackedKey;
@@ -232,10 +234,74 @@ fn singular_session(rt: &HostRuntime, key: SlotKey<'_>) -> io::Result<()> {
     Ok(())
 }
 
+fn tell_event(rt: &HostRuntime, event: &Event) -> io::Result<()> {
+    match event {
+        Event::Answered {
+            frame,
+            answer,
+            reply,
+            ..
+        } => {
+            let sent = Hex { bytes: frame };
+            let reply = Hex {
+                bytes: &reply[..answer.length.min(reply.len())],
+            };
+            println!(rt; "    host {sent} | card {reply}")
+        }
+        Event::Closed { fault: None } => println!(rt; "    the session is closed"),
+        Event::Published { fault: None, .. } => println!(rt; "    a public column is sent"),
+        Event::Closed { fault: Some(fault) } => explain(rt, *fault),
+        Event::Published {
+            fault: Some(fault),
+            ..
+        } => explain(rt, *fault),
+        Event::NotAllowed { .. } => println!(rt; "    the session has no such call"),
+    }
+}
+
+// Our host against the card, with no frame by hand, then the calls that come after it; the packed public key.
+fn our_host(
+    rt: &HostRuntime,
+    key: SlotKey<'_>,
+    rows: &[u8],
+    rest: &[Call<'_>],
+) -> io::Result<[u8; ROWS]> {
+    let hex = Hex { bytes: rows };
+    println!(rt; "\nOur host and the card, with blinding rows {hex}.")?;
+    let blinding = StoredMatrix::new(ROWS, rows);
+    let mut inverse = [0; ROWS];
+    let mut memory = [0; ROWS];
+    let mut store = PackedKey::new(&mut memory, ROWS, REST);
+    let run = run(
+        rt.alloc(),
+        &key,
+        &blinding,
+        &mut inverse,
+        &mut store,
+        &[],
+        Some("practice12"),
+        rest,
+    );
+    for event in &run.events {
+        tell_event(rt, event)?;
+    }
+    Ok(memory)
+}
+
 fn main(rt: HostRuntime) -> io::Result<()> {
     let slot = KeySlot::new();
     let key = SlotKey { slot: &slot };
     show_key(&rt, &key)?;
     complete_session(&rt, key)?;
-    singular_session(&rt, key)
+    singular_session(&rt, key)?;
+    let publish = Call::Publish { working: 2 };
+    let packed = our_host(
+        &rt,
+        key,
+        &BLINDING,
+        &[Call::Close, publish, publish, publish, publish],
+    )?;
+    show_packed(&rt, &packed)?;
+    our_host(&rt, key, &SINGULAR, &[Call::Close])?;
+    Ok(())
 }

@@ -1,0 +1,11 @@
+pub mod Lists
+pub mod Laws
+pub mod Classes
+pub mod Memory
+pub mod Steps
+pub mod Quiet
+pub mod Reaches
+pub mod Hosting
+pub mod Parts
+pub mod Helping
+pub mod Beginning
