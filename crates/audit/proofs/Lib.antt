@@ -1,0 +1,5 @@
+pub mod Blocks
+pub mod Columns
+pub mod Found
+pub mod Regular
+pub mod Exactly

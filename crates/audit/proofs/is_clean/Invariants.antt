@@ -1,0 +1,6 @@
+use Rattle.std.proofs.Common.{◌≡◌, ℕ, ◌<◌, ◌≤◌}
+use Rattle.audit.specs.Verdicts.{bit}
+use Rattle.audit.proofs.is_clean.Given as goal
+
+abbrev pub invariant-loop-j : goal.invariant-loop-j
+invariant-loop-j l = (a : ℕ) → l.k ≤ a → a < l.j → bit l.k l.published l.i a ≡ 0
