@@ -1,4 +1,7 @@
-// The worked examples that no proof computes: what a card answers to a list of frames, and what loading refuses.
+// The worked examples that no proof computes: what a card answers to a list of frames, what loading refuses, and
+// what is found of bytes that are to be a public key.
+use audit::check;
+use audit::verdict::Verdict;
 use block::SlotKey;
 use goppa::slot::KeySlot;
 use operator::stored::StoredMatrix;
@@ -102,6 +105,37 @@ const LOADINGS: [Loading; 5] = [
     },
 ];
 
+// Bytes that are to be the public key of a new slot, and what is found of them.
+#[derive(Clone, Copy)]
+struct Finding {
+    bytes: &'static [u8],
+    verdict: Verdict,
+}
+
+const FINDINGS: [Finding; 5] = [
+    Finding {
+        bytes: &[0x0B, 0x07, 0x04, 0x08, 0x0E, 0x0D, 0x02, 0x01],
+        verdict: Verdict::Right,
+    },
+    Finding {
+        bytes: &[0x0B, 0x07, 0x04, 0x08, 0x0E, 0x0D, 0x02],
+        verdict: Verdict::Length(7),
+    },
+    // bit 2 of row 5, and in the other column bit 3 of row 1
+    Finding {
+        bytes: &[0x0B, 0x0F, 0x04, 0x08, 0x0E, 0x09, 0x02, 0x01],
+        verdict: Verdict::Wrong { column: 2, row: 5 },
+    },
+    Finding {
+        bytes: &[0x0B, 0x07, 0x04, 0x08, 0x0E, 0x0D, 0x02, 0x00],
+        verdict: Verdict::Wrong { column: 0, row: 7 },
+    },
+    Finding {
+        bytes: &[0x0B, 0x07, 0x84, 0x08, 0x0E, 0x0D, 0x02, 0x01],
+        verdict: Verdict::Pad { row: 2 },
+    },
+];
+
 impl Loading {
     fn holds(&self, slot: &mut KeySlot) -> bool {
         let mut key = KEY;
@@ -140,6 +174,20 @@ fn count_replies() -> usize {
         .count()
 }
 
+// How many of the findings come as stated.
+fn count_findings(rt: &HostRuntime) -> io::Result<usize> {
+    let slot = KeySlot::new();
+    let key = SlotKey { slot: &slot };
+    let mut found = 0usize;
+    // a loop, since a check may want for memory
+    for finding in FINDINGS {
+        if check(rt.alloc(), &key, finding.bytes)? == finding.verdict {
+            found = found.saturating_add(1);
+        }
+    }
+    Ok(found)
+}
+
 pub(super) fn run(rt: &HostRuntime) -> io::Result<()> {
     let replies = count_replies();
     println!(rt;
@@ -154,5 +202,10 @@ pub(super) fn run(rt: &HostRuntime) -> io::Result<()> {
     println!(rt;
         "practice12: {loadings} of {} keys loaded or refused as stated",
         LOADINGS.len()
+    )?;
+    let findings = count_findings(rt)?;
+    println!(rt;
+        "practice12: {findings} of {} public keys found right or wrong as stated",
+        FINDINGS.len()
     )
 }

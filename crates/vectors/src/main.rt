@@ -5,6 +5,8 @@
 
 mod examples;
 
+use audit::check;
+use audit::verdict::Verdict;
 use bits::{bytes_for, xor_row};
 use block::SlotKey;
 use goppa::slot::KeySlot;
@@ -15,7 +17,7 @@ use runs::run;
 use sink::key::PackedKey;
 use std::alloc::{AllocError, Global};
 use std::cmp::Ordering;
-use std::fs;
+use std::{fs, io};
 
 const SETS: [&str; 5] = [
     "mceliece348864",
@@ -135,10 +137,27 @@ fn rest_of(heap: Global, n: usize, k: usize) -> Result<Vec<Call<'static>>, Alloc
     Ok(calls)
 }
 
+// Checks the published key, and the same with the last bit of its first row turned.
+fn judge(rt: &HostRuntime, name: &str, key: &SlotKey<'_>, published: &mut [u8]) -> io::Result<()> {
+    let heap = rt.alloc();
+    let right = check(heap, key, published)? == Verdict::Right;
+    let last = key.slot.set.rest().saturating_sub(1);
+    if let Some(byte) = published.get_mut(last / 8) {
+        *byte ^= 1 << (last % 8);
+    }
+    let turned = Verdict::Wrong {
+        column: last,
+        row: 0,
+    };
+    let wrong = check(heap, key, published)? == turned;
+    let verdict = if right && wrong { "ok" } else { "DIFFERS" };
+    println!(rt; "{name}: the published key found right, and wrong with a bit turned, {verdict}")
+}
+
 fn run_set(rt: &HostRuntime, name: &str) -> anyhow::Result<()> {
     let heap = rt.alloc();
     let bytes = fs::read(rt, format!(in heap; "{name}-0.key")?.as_str())?;
-    let published = fs::read(rt, format!(in heap; "{name}-0.pub")?.as_str())?;
+    let mut published = fs::read(rt, format!(in heap; "{name}-0.pub")?.as_str())?;
     let mut slot = KeySlot::new();
     if slot.load(name, &bytes).is_err() {
         println!(rt; "{name}: the key is refused")?;
@@ -178,6 +197,7 @@ fn run_set(rt: &HostRuntime, name: &str) -> anyhow::Result<()> {
         count_published(&run.events),
         published.len()
     )?;
+    judge(rt, name, &key, &mut published)?;
     Ok(())
 }
 
