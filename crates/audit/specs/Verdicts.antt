@@ -54,7 +54,7 @@ pub record Belongs (s : Sizes) (H : Mat) (xs : List ℕ) : Type 0 where
 abbrev pub Long : Sizes → List ℕ → Type 0
 Long s xs = length xs ≡ s.rows * bytes_for s.rest
 
--- what a verdict tells; no two of them hold together
+-- what a verdict tells
 abbrev pub Tells : Sizes → Mat → List ℕ → Verdict → Type 0
 Tells s H xs Right = Belongs s H xs
 Tells s H xs (Length l) = (l ≡ length xs) × (l ≢ s.rows * bytes_for s.rest)

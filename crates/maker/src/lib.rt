@@ -1,7 +1,7 @@
 // The polynomial maker: from an element of the polynomials over a set's field modulo its F(y), the
 // coefficients of the one monic polynomial of degree t over the field that is zero at it.
-// What these polynomials are is crate quotient's, solving is crate solver's. No part of the element or of
-// the result stays in local memory; the lent tables are the caller's to clear.
+// What these polynomials are is crate quotient's, solving is crate solver's. Local arrays are cleared at the
+// end; the lent tables are the caller's to clear.
 #![tactic(auto)]
 
 ghost use Rattle.std.specs.Prelude.{◌≡◌, ℕ, ◌+◌, ◌*◌, ◌%◌, ◌^◌, ◌<◌, ◌≤◌, length, bit_xor, slice_index};
@@ -263,8 +263,8 @@ fn solve_in<F: Field>(
             Ok(())
         }
         Ok(Solved::Dependent(_)) => Err(MakerFault::Dependent),
-        // The tables fit, so the solver refuses none.
-        Err(_) => Err(MakerFault::Dependent),
+        // the tables fit
+        Err(_) => unreachable!(),
     }
 }
 

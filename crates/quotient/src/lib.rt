@@ -1,5 +1,6 @@
-// Theory of the polynomials over a field modulo a polynomial F(y): their ring, and the polynomial of
-// which one of them is a root. It has no code but a function whose contract puts its theorems under the check.
+// Theory of the polynomials over a field modulo a polynomial F(y): their ring. What a polynomial of which one
+// of them is a root is, is defined here and promised by crate maker. It has no code but a function whose
+// contract puts its theorem under the check.
 #![tactic(auto)]
 
 ghost use Rattle.std.specs.Prelude.{ℕ, ◌<◌};

@@ -3,7 +3,7 @@ use refusal::Fault;
 use std::io;
 use words::Words;
 
-// By number, as docs/REFUSALS.md lists them; those that this program can meet.
+// By the numbers of docs/REFUSALS.md; those that this program can meet.
 fn advice(number: u8) -> &'static str {
     match number {
         1 => "Spell the set's name as in the table of parameter sets.",
@@ -13,7 +13,7 @@ fn advice(number: u8) -> &'static str {
         5 => "Give a Goppa polynomial that is not zero on the support.",
         7 => "Give a blinding of mt rows of bytes.",
         23 => "Take another blinding: this one times the check block has no inverse.",
-        _ => "Start again with a fresh session; if it happens again, look for a broken file.",
+        _ => "Start again; if it happens again, look for a broken file.",
     }
 }
 

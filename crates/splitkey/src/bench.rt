@@ -89,7 +89,7 @@ impl Line {
     }
 }
 
-// The refusal of a frame, and the reply: nothing of what is no answer.
+// The refusal of a frame, and the reply, which is empty if the call was no frame.
 fn answer_in(heap: Global, event: Event) -> (Option<SessionFault>, Vec<u8>) {
     match event {
         Event::Answered {

@@ -1,6 +1,6 @@
 // A key tool for the bench, for those who prepare and check cards: it makes the public key of a private key and a
-// blinding from files, with card and host in one process, tells whether a public
-// key belongs to a private key, and shows what a private key file holds.
+// blinding from files, with card and host in one process, tells whether a public key belongs to a private key, and
+// shows what a private key file holds.
 #![tactic(auto)]
 
 mod advice;

@@ -1,5 +1,5 @@
-// The worked examples that no proof computes: what a card answers to a list of frames, what loading refuses, and
-// what is found of bytes that are to be a public key.
+// Worked examples that are run: what a card answers to a list of frames, what loading refuses, and what is found
+// of bytes that are to be a public key.
 use audit::check;
 use audit::verdict::Verdict;
 use block::SlotKey;
@@ -65,7 +65,7 @@ struct Loading {
     place: u16,
 }
 
-const LOADINGS: [Loading; 5] = [
+const LOADINGS: [Loading; 6] = [
     Loading {
         length: 28,
         at: 0,
@@ -94,6 +94,14 @@ const LOADINGS: [Loading; 5] = [
         value: 16,
         number: 3,
         place: 13,
+    },
+    // entry 5 is 0, as entry 2
+    Loading {
+        length: 28,
+        at: 10,
+        value: 0,
+        number: 4,
+        place: 5,
     },
     // g = x^2 + x is 0 at 0, the first of the support
     Loading {

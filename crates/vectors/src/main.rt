@@ -12,12 +12,13 @@ use block::SlotKey;
 use goppa::slot::KeySlot;
 use maker::make;
 use operator::stored::StoredMatrix;
+use refusal::Fault;
 use runs::calls::{Call, Event};
 use runs::run;
 use sink::key::PackedKey;
 use std::alloc::{AllocError, Global};
 use std::cmp::Ordering;
-use std::{fs, io};
+use std::{fmt, fs, io};
 
 const SETS: [&str; 5] = [
     "mceliece348864",
@@ -91,6 +92,32 @@ fn dense(heap: Global, n: usize) -> Result<Vec<u8>, AllocError> {
     Ok(product)
 }
 
+// How bytes that were made compare with those that are published.
+#[derive(Clone, Copy)]
+enum Compared {
+    Same,
+    // the first byte that differs, or the length of the shorter
+    From(usize),
+}
+
+impl fmt::Display for Compared {
+    fn fmt<W: fmt::Write>(&self, f: &mut fmt::Formatter<W>) -> fmt::Result {
+        match self {
+            Compared::Same => write!(f, "ok"),
+            Compared::From(at) => write!(f, "DIFFERS from byte {at} on"),
+        }
+    }
+}
+
+fn compare(made: &[u8], published: &[u8]) -> Compared {
+    let first = made.iter().zip(published).position(|(a, b)| a != b);
+    match first {
+        Some(at) => Compared::From(at),
+        None if made.len() == published.len() => Compared::Same,
+        None => Compared::From(made.len().min(published.len())),
+    }
+}
+
 // Makes g from the published element of degree t, and compares it with the first t entries of the key.
 fn remake(rt: &HostRuntime, name: &str, t: usize, key: &[u8]) -> anyhow::Result<()> {
     let heap = rt.alloc();
@@ -98,12 +125,12 @@ fn remake(rt: &HostRuntime, name: &str, t: usize, key: &[u8]) -> anyhow::Result<
     let mut powers = vec![in heap; 0u16; t.saturating_mul(t)]?;
     let mut inverse = vec![in heap; 0u16; t.saturating_mul(t)]?;
     let mut goppa = vec![in heap; 0u8; t.saturating_mul(2)]?;
-    let made = make(name, &beta, &mut powers, &mut inverse, &mut goppa);
-    let verdict = if made.is_ok() && key.starts_with(&goppa) {
-        "ok"
-    } else {
-        "DIFFERS"
-    };
+    if let Err(fault) = make(name, &beta, &mut powers, &mut inverse, &mut goppa) {
+        println!(rt; "{name}: no g is made, refused by {}", fault.number())?;
+        return Ok(());
+    }
+    let expected = &key[..goppa.len().min(key.len())];
+    let verdict = compare(&goppa, expected);
     println!(rt; "{name}: g of degree {t} made from its element {verdict}")?;
     Ok(())
 }
@@ -159,10 +186,15 @@ fn run_set(rt: &HostRuntime, name: &str) -> anyhow::Result<()> {
     let bytes = fs::read(rt, format!(in heap; "{name}-0.key")?.as_str())?;
     let mut published = fs::read(rt, format!(in heap; "{name}-0.pub")?.as_str())?;
     let mut slot = KeySlot::new();
-    if slot.load(name, &bytes).is_err() {
-        println!(rt; "{name}: the key is refused")?;
+    if let Err(fault) = slot.load(name, &bytes) {
+        println!(rt;
+            "{name}: the key is refused by {} at place {}",
+            fault.number(),
+            fault.place()
+        )?;
         return Ok(());
     }
+    println!(rt; "{name}: key loaded")?;
     remake(rt, name, slot.set.t, &bytes)?;
     let (n, k) = (slot.set.rows(), slot.set.rest());
     let key = SlotKey { slot: &slot };
@@ -187,11 +219,7 @@ fn run_set(rt: &HostRuntime, name: &str) -> anyhow::Result<()> {
         count_replies(&run.events, 0x21),
         count_replies(&run.events, 0x22)
     )?;
-    let verdict = if store.bytes() == published.as_slice() {
-        "ok"
-    } else {
-        "DIFFERS"
-    };
+    let verdict = compare(store.bytes(), &published);
     println!(rt;
         "{name}: {} columns published, public key of {} bytes {verdict}",
         count_published(&run.events),

@@ -115,7 +115,7 @@ unblinded_rows = gives (map (unblinded 8 R) (single host_rows)) (single inverse_
 abbrev pub combination : Line
 combination = gives (first (frame_lines 8 (blinded 8 R_singular H) 0 0 (0x13 ∷ 0x03 ∷ []))) None
 
--- the maker: at y, whose entries are 0 and 1, the polynomial with g_0 = 8 and g_1 = 1 is zero modulo F(y); no check refuses y
+-- the maker: at y (entries 0 and 1) the g with g_0 = 8 and g_1 = 1 is zero modulo F(y), and its contract says that no other g is; no check refuses y
 abbrev pub maker_root : Line
 maker_root = gives (map (value (mul 4 19) 2 (low_of practice12.terms) (entry_in y) (entry_in (0x08 ∷ 0x00 ∷ 0x01 ∷ 0x00 ∷ []))) (range_with_len 0 2)) (0 ∷ 0 ∷ [])
 
