@@ -181,6 +181,46 @@ fn judge(rt: &HostRuntime, name: &str, key: &SlotKey<'_>, published: &mut [u8]) 
     println!(rt; "{name}: the published key found right, and wrong with a bit turned, {verdict}")
 }
 
+// Lets our host and the card make the public key, and compares it with the published one.
+fn make_public(
+    rt: &HostRuntime,
+    name: &str,
+    key: &SlotKey<'_>,
+    published: &[u8],
+) -> anyhow::Result<()> {
+    let heap = rt.alloc();
+    let (n, k) = (key.slot.set.rows(), key.slot.set.rest());
+    let rows = dense(heap, n)?;
+    let blinding = StoredMatrix::new(n, &rows);
+    let mut inverse = vec![in heap; 0u8; n.saturating_mul(bytes_for(n))]?;
+    let mut memory = vec![in heap; 0u8; n.saturating_mul(bytes_for(k))]?;
+    let mut store = PackedKey::new(&mut memory, n, k);
+    let rest = rest_of(heap, n, k)?;
+    println!(rt; "{name}: our host begins, {n} columns and {n} rows, then {k} public columns")?;
+    let run = run(
+        heap,
+        key,
+        &blinding,
+        &mut inverse,
+        &mut store,
+        &[],
+        Some(name),
+        &rest,
+    );
+    println!(rt;
+        "{name}: {} columns answered, {} rows taken",
+        count_replies(&run.events, 0x21),
+        count_replies(&run.events, 0x22)
+    )?;
+    let verdict = compare(store.bytes(), published);
+    println!(rt;
+        "{name}: {} columns published, public key of {} bytes {verdict}",
+        count_published(&run.events),
+        published.len()
+    )?;
+    Ok(())
+}
+
 fn run_set(rt: &HostRuntime, name: &str) -> anyhow::Result<()> {
     let heap = rt.alloc();
     let bytes = fs::read(rt, format!(in heap; "{name}-0.key")?.as_str())?;
@@ -196,35 +236,8 @@ fn run_set(rt: &HostRuntime, name: &str) -> anyhow::Result<()> {
     }
     println!(rt; "{name}: key loaded")?;
     remake(rt, name, slot.set.t, &bytes)?;
-    let (n, k) = (slot.set.rows(), slot.set.rest());
     let key = SlotKey { slot: &slot };
-    let rows = dense(heap, n)?;
-    let blinding = StoredMatrix::new(n, &rows);
-    let mut inverse = vec![in heap; 0u8; n.saturating_mul(bytes_for(n))]?;
-    let mut memory = vec![in heap; 0u8; n.saturating_mul(bytes_for(k))]?;
-    let mut store = PackedKey::new(&mut memory, n, k);
-    let rest = rest_of(heap, n, k)?;
-    let run = run(
-        heap,
-        &key,
-        &blinding,
-        &mut inverse,
-        &mut store,
-        &[],
-        Some(name),
-        &rest,
-    );
-    println!(rt;
-        "{name}: {} columns answered, {} rows taken",
-        count_replies(&run.events, 0x21),
-        count_replies(&run.events, 0x22)
-    )?;
-    let verdict = compare(store.bytes(), &published);
-    println!(rt;
-        "{name}: {} columns published, public key of {} bytes {verdict}",
-        count_published(&run.events),
-        published.len()
-    )?;
+    make_public(rt, name, &key, &published)?;
     judge(rt, name, &key, &mut published)?;
     Ok(())
 }
