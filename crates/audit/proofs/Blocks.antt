@@ -17,7 +17,7 @@ use Rattle.solver.specs.declared.Solved.TheVariants.{Inverse, Dependent}
 use Rattle.host.specs.Frames.{bit_table}
 use Rattle.host.proofs.Tables.{table-bit}
 use Rattle.host.proofs.Solving.{solves-same}
-use Rattle.audit.specs.Solving.{Inverted, row_bit}
+use Rattle.audit.specs.Solving.{Inverted, padded_bit}
 
 cell-bit : (ys : List ℕ) (p : ℕ) → get_or ys p 0 % 2 ≡ get_or (map (element 1 (λ x. x)) ys) p 0
 cell-bit ys p = elim (cases_lt p (length ys)) [
@@ -28,7 +28,7 @@ cell-bit ys p = elim (cases_lt p (length ys)) [
 ]
 
 -- bit p, where it is not a pad bit
-pub bit-read : (n p w : ℕ) (ys : List ℕ) → w ≡ bytes_for n → p % (8 * w) < n → get_or ys (p / (8 * w) * n + p % (8 * w)) 0 % 2 ≡ row_bit n ys p
+pub bit-read : (n p w : ℕ) (ys : List ℕ) → w ≡ bytes_for n → p % (8 * w) < n → get_or ys (p / (8 * w) * n + p % (8 * w)) 0 % 2 ≡ padded_bit n ys p
 unfolding entries
 bit-read n p w ys e h =
     cell-bit ys (p / (8 * w) * n + p % (8 * w))
@@ -46,20 +46,20 @@ row-place w xs i j =
     let e = eight-times i w in
     ap₂ (λ p b. bit_of (get_or xs p 0) b) (omega arith) (omega arith)
 
-row-bit : (n i j : ℕ) (ys : List ℕ) → j < n → row_bit n ys (i * (8 * bytes_for n) + j) ≡ bit_table n ys i j
-row-bit n i j ys hj =
+padded-bit : (n i j : ℕ) (ys : List ℕ) → j < n → padded_bit n ys (i * (8 * bytes_for n) + j) ≡ bit_table n ys i j
+padded-bit n i j ys hj =
     let w = 8 * bytes_for n in
     ap₂ (λ a b. cond (ltb b n) (bit_table n ys a b) 0) (div-mul-add i w j (omega arith)) (mod-mul-add i w j (omega arith))
     ∙ cond-true (ltb j n) _ _ (lt-ltb j n hj)
 
 pub rows-packed : (n w : ℕ) (ys xs xs' : List ℕ) → w ≡ bytes_for n → length xs ≡ n * bytes_for n
-    → xs' ≡ cond (eqb (length xs) (bytes_for (8 * (n * w)))) (pack (8 * (n * w)) (row_bit n ys)) xs
+    → xs' ≡ cond (eqb (length xs) (bytes_for (8 * (n * w)))) (pack (8 * (n * w)) (padded_bit n ys)) xs
     → (i j : ℕ) → i < n → j < n → of_rows (bytes_for n) xs' i j ≡ bit_table n ys i j
 rows-packed n w ys xs xs' e long is i j hi hj =
-    subst (λ w. xs' ≡ cond (eqb (length xs) (bytes_for (8 * (n * w)))) (pack (8 * (n * w)) (row_bit n ys)) xs → of_rows (bytes_for n) xs' i j ≡ bit_table n ys i j) (sym e) (packed n ys xs xs' long i j hi hj) is
+    subst (λ w. xs' ≡ cond (eqb (length xs) (bytes_for (8 * (n * w)))) (pack (8 * (n * w)) (padded_bit n ys)) xs → of_rows (bytes_for n) xs' i j ≡ bit_table n ys i j) (sym e) (packed n ys xs xs' long i j hi hj) is
   where
     packed : (n : ℕ) (ys xs xs' : List ℕ) → length xs ≡ n * bytes_for n → (i j : ℕ) → i < n → j < n
-        → xs' ≡ cond (eqb (length xs) (bytes_for (8 * (n * bytes_for n)))) (pack (8 * (n * bytes_for n)) (row_bit n ys)) xs → of_rows (bytes_for n) xs' i j ≡ bit_table n ys i j
+        → xs' ≡ cond (eqb (length xs) (bytes_for (8 * (n * bytes_for n)))) (pack (8 * (n * bytes_for n)) (padded_bit n ys)) xs → of_rows (bytes_for n) xs' i j ≡ bit_table n ys i j
     packed n ys xs xs' long i j hi hj is =
         let w = bytes_for n in
         let m = 8 * (n * w) in
@@ -68,10 +68,10 @@ rows-packed n w ys xs xs' e long is i j hi hj =
         let place = mul-add-lt i w (j / 8) n hi (omega arith) in
         let turned = mul_comm n w in
         let inside : i * (8 * w) + j < m = omega arith in
-        let same = row-bit n i j ys hj in
+        let same = padded-bit n i j ys hj in
         ap (λ z. of_rows w z i j) (is ∙ cond-true (eqb (length xs) (bytes_for m)) _ _ (eq-eqb (length xs) (bytes_for m) fit))
-        ∙ row-place w (pack m (row_bit n ys)) i j
-        ∙ bits-pack-in m (row_bit n ys) (i * (8 * w) + j) inside (subst (λ x. x < 2) (sym same) (table-bit n ys i j))
+        ∙ row-place w (pack m (padded_bit n ys)) i j
+        ∙ bits-pack-in m (padded_bit n ys) (i * (8 * w) + j) inside (subst (λ x. x < 2) (sym same) (table-bit n ys i j))
         ∙ same
 
 pub inverted : (n : ℕ) (H : Mat) (ys xs : List ℕ) (s : Solved) → Solves bits n H (bit_table n ys) s

@@ -2,4 +2,4 @@ pub mod Blocks
 pub mod Columns
 pub mod Found
 pub mod Regular
-pub mod Exactly
+pub mod Only

@@ -3,11 +3,14 @@ use Rattle.std.proofs.Common.{◌≡◌, ℕ, ◌+◌, ◌-◌, ◌^◌, ◌<◌
 use lib.Bits.{bit_xor, xor_zero_r}
 use Rattle.std.proofs.lemmas.Bool.{cases_lt, cond-true, cond-false, lt-ltb, le-ltb}
 use Rattle.galois.specs.Arith.{Arith}
-use Rattle.matrix.specs.Matrix.{Mat, sum, times, apply, Els, Dependent}
-use Rattle.matrix.specs.Words.{Word, Passes, unit_and, Systematic, Singular}
+use Rattle.galois.specs.Bit.{bits}
+use Rattle.matrix.specs.Matrix.{Mat, sum, times, apply, Elements, Els, Dependent}
+use Rattle.matrix.specs.Words.{Passes, unit_and, Systematic, Singular}
 use Rattle.matrix.proofs.Sums.{sum-cong, sum-zero, mul-zero, delta-times}
 use Rattle.matrix.proofs.Checks.{sum-split, unit_left}
 use Rattle.matrix.proofs.Inverse.{decided, columns-dependent, flip}
+use Rattle.key.specs.declared.sizes.Sizes.{Sizes}
+use Rattle.key.specs.Columns.{IsPublic}
 
 module _ (F : Arith) (n k : ℕ) (w : ℕ → ℕ) where
   -- the word of n + k elements that begins with w and ends with zeros
@@ -22,7 +25,7 @@ module _ (F : Arith) (n k : ℕ) (w : ℕ → ℕ) where
   unfolding begun
   begun-past a = cond-false (ltb (n + a) n) (w (n + a)) 0 (le-ltb (n + a) n (omega arith))
 
-  begun-word : ((a : ℕ) → w a < 2 ^ F.width) → Word F (n + k) begun
+  begun-word : ((a : ℕ) → w a < 2 ^ F.width) → Elements F.width (n + k) begun
   begun-word h a l = elim (cases_lt a n) [
     | inl m ↦ subst (λ x. x < 2 ^ F.width) (sym (begun-in a m)) (h a)
     | inr m ↦ let q : n + (a - n) ≡ a = omega arith in subst (λ x. x < 2 ^ F.width) (sym (begun-past (a - n)) ∙ ap begun q) (pow_pos F.width)
@@ -50,8 +53,12 @@ module _ (F : Arith) (n k : ℕ) (H T : Mat) (form : Systematic F n k H T) where
       sum-cong n _ _ (λ a h. ap (λ x. F.mul x (w a)) (unit_left n T d.at a h)) ∙ delta-times F n (λ a _. w a) d.at 0 d.at_lt (small d.at) in
       d.nonzero (sym (xor_zero_r (w d.at)) ∙ ap (λ x. bit_xor x 0) (sym own) ∙ sym (begun-apply F n k w (unit_and n T) d.at) ∙ zero)
 
-  pub regular : Els F H → Singular F n H → ⊥
+  regular : Els F H → Singular F n H → ⊥
   regular els singular = elim (decided F n H els) [
     | inl t ↦ singular.no_left t.0 t.1 t.2
     | inr t ↦ let d = columns-dependent F n H t.0 els t.1 t.2 in columns-free d.0 d.1 d.2
   ]
+
+-- a key whose block has no inverse has no public matrix
+pub no-public : (s : Sizes) (H : Mat) → Els bits H → Singular bits s.rows H → (T : Mat) → IsPublic s H T → ⊥
+no-public s H els singular T public = regular bits s.rows s.rest H T public.has els singular

@@ -1,4 +1,5 @@
--- What the parts of a check give: the inverse block, the key's columns, the first that differs. Assumes nothing.
+-- What the parts of a check give: the inverse block and the key's columns. What private steps promise; no public
+-- contract cites it. Assumes nothing.
 use Rattle.std.specs.Prelude.{ℕ, ◌*◌, ◌/◌, ◌%◌, cond, List, nat_lt}
 use Rattle.galois.specs.Bit.{bits}
 use Rattle.matrix.specs.Matrix.{Mat, times}
@@ -14,8 +15,8 @@ Inverted n H xs Inverse = LeftInverse bits n H (of_rows (bytes_for n) xs)
 Inverted n H xs (Dependent r) = Singular bits n H
 
 -- bit p of the rows of an n by n table, each in whole bytes
-abbrev pub row_bit : ℕ → List ℕ → ℕ → ℕ
-row_bit n ys p = cond (nat_lt (p % (8 * bytes_for n)) n) (bit_table n ys (p / (8 * bytes_for n)) (p % (8 * bytes_for n))) 0
+abbrev pub padded_bit : ℕ → List ℕ → ℕ → ℕ
+padded_bit n ys p = cond (nat_lt (p % (8 * bytes_for n)) n) (bit_table n ys (p / (8 * bytes_for n)) (p % (8 * bytes_for n))) 0
 
 -- the public matrix, by packed rows xs that undo the block
 abbrev pub product : ℕ → List ℕ → Mat → Mat

@@ -3,16 +3,18 @@
 // takes the memory that it needs, and keeps the inverse of a secret block in it.
 #![tactic(auto)]
 
-ghost use Rattle.std.specs.Prelude.{◌≡◌, ℕ, ◌+◌, ◌*◌, ◌/◌, ◌%◌, ◌<◌, ◌≤◌, ◌↔◌, length, ◌≢◌, IfOk, MatchOption, slice_index, true, false, List};
+ghost use Rattle.std.specs.Prelude.{◌≡◌, ℕ, ◌+◌, ◌*◌, ◌/◌, ◌%◌, ◌<◌, ◌≤◌, length, ◌≢◌, IfOk, MatchOption, Ok, slice_index, true, false};
 ghost use Rattle.galois.specs.Bit.{bits};
-ghost use Rattle.matrix.specs.Matrix.{Mat, Same};
+ghost use Rattle.matrix.specs.Matrix.{Same};
 ghost use Rattle.bits.specs.Bits.{bytes_for, bits_of, of_rows, pack};
+ghost use Rattle.sink.specs.Store.{key_matrix};
 ghost use Rattle.solver.specs.Answers.{Solves};
 ghost use Rattle.solver.specs.declared.Solved.TheVariants.{Inverse};
-ghost use Rattle.host.specs.Frames.{bit_table, with_column};
-ghost use Rattle.audit.specs.Verdicts.{Agrees, Belongs, Clean, Differs, Long, Padded, Tells, bit};
-ghost use Rattle.audit.specs.declared.verdict.Verdict.TheVariants.{Right};
-ghost use Rattle.audit.specs.Solving.{Inverted, product, row_bit};
+ghost use Rattle.host.specs.Frames.{bit_table, with_cells};
+ghost use Rattle.audit.specs.Verdicts.{SameColumns, Padless, Differs, Long, Padded, Tells};
+ghost use Rattle.audit.specs.declared.verdict.Verdict.{Verdict};
+ghost use Rattle.audit.specs.declared.verdict.Verdict.TheVariants.{Length};
+ghost use Rattle.audit.specs.Solving.{Inverted, product, padded_bit};
 
 pub mod verdict;
 
@@ -31,7 +33,7 @@ use verdict::Verdict;
 fn keep_column(n: usize, j: usize, column: &[u8], table: &mut [u8])
     requires table { length table.old ≡ n * n }
     requires within { (j < n) × (n ≤ 1664) }
-    ensures { table.new ≡ with_column n j n (bits_of column.now) table.old }
+    ensures { table.new ≡ with_cells n j n (bits_of column.now) table.old }
 {
     // By number: after chunks_exact_mut(n) a proof knows nothing of what was written.
     for i in 0..n {
@@ -97,7 +99,7 @@ struct Rows<'a> {
 }
 
 impl BitSource for Rows<'_> {
-    ghost vector = { λ s. row_bit s.n s.cells.now };
+    ghost vector = { λ s. padded_bit s.n s.cells.now };
 
     fn bit(&self, i: usize) -> u8 {
         let width = 8 * bytes_for(self.n);
@@ -168,8 +170,8 @@ fn wrong_row(published: &[u8], n: usize, k: usize, c: usize, own: &[u8]) -> Opti
     requires long { length published.now ≡ n * bytes_for k }
     requires column { (c < k) × (k ≤ 8192) }
     ensures { MatchOption result
-        ((a : ℕ) → a < n → bit k published.now a c ≡ bits_of own.now a)
-        (λ i. (i < n) × ((a : ℕ) → a < i → bit k published.now a c ≡ bits_of own.now a) × (bit k published.now i c ≢ bits_of own.now i)) }
+        ((a : ℕ) → a < n → key_matrix k published.now a c ≡ bits_of own.now a)
+        (λ i. (i < n) × ((a : ℕ) → a < i → key_matrix k published.now a c ≡ bits_of own.now a) × (key_matrix k published.now i c ≢ bits_of own.now i)) }
 {
     for i in 0..n {
         if row_bit(published, bytes_for(k), i, c) != get_bit(own, i) {
@@ -183,8 +185,8 @@ fn wrong_row(published: &[u8], n: usize, k: usize, c: usize, own: &[u8]) -> Opti
 fn is_clean(published: &[u8], n: usize, k: usize, i: usize) -> bool
     requires long { length published.now ≡ n * bytes_for k }
     requires row { (i < n) × (k ≤ 8192) }
-    ensures yes { result ≡ true → Clean k published.now i }
-    ensures no { result ≡ false → Clean k published.now i → ⊥ }
+    ensures yes { result ≡ true → Padless k published.now i }
+    ensures no { result ≡ false → Padless k published.now i → ⊥ }
 {
     let l = bytes_for(k);
     for j in k..8 * l {
@@ -199,7 +201,7 @@ fn is_clean(published: &[u8], n: usize, k: usize, i: usize) -> bool
 fn dirty_row(published: &[u8], n: usize, k: usize) -> Option<usize>
     requires long { length published.now ≡ n * bytes_for k }
     requires small { k ≤ 8192 }
-    ensures { MatchOption result ((a : ℕ) → a < n → Clean k published.now a) (Padded n k published.now) }
+    ensures { MatchOption result ((a : ℕ) → a < n → Padless k published.now a) (Padded n k published.now) }
 {
     for i in 0..n {
         if !is_clean(published, n, k, i) {
@@ -240,7 +242,7 @@ fn wrong_bit<K: Key>(
     requires first { length column.old ≡ bytes_for (K.sizes key.now).rows }
     requires second { length own.old ≡ bytes_for (K.sizes key.now).rows }
     ensures { let s = K.sizes key.now in let T = product s.rows inverse.now (K.checks key.now) in
-        MatchOption result (Agrees s.rows s.rest published.now T s.rest) (λ p. Differs s.rows s.rest published.now T p.0 p.1) }
+        MatchOption result (SameColumns s.rows s.rest published.now T s.rest) (λ p. Differs s.rows s.rest published.now T p.0 p.1) }
 {
     let Sizes { rows: n, rest: k } = key.set();
     for c in 0..k {
@@ -299,10 +301,12 @@ fn judge<K: Key>(
     }
 }
 
-// Whether the published bytes are the public key of a private key, and what is wrong if they are not.
+// Whether the published bytes are the public key of a private key, and what is wrong if they are not. Bytes of
+// another length are told so before any memory is taken.
 pub fn check<K: Key>(heap: Global, key: &K, published: &[u8]) -> Result<Verdict, AllocError>
     ensures tells { IfOk result (Tells (K.sizes key.now) (K.checks key.now) published.now) }
-    ensures exactly { IfOk result (λ v. (v ≡ Right) ↔ Belongs (K.sizes key.now) (K.checks key.now) published.now) }
+    ensures only { IfOk result (λ v. (u : Verdict) → Tells (K.sizes key.now) (K.checks key.now) published.now u → u ≡ v) }
+    ensures misfit { (Long (K.sizes key.now) published.now → ⊥) → result ≡ Ok (Length (length published.now)) }
 {
     let Sizes { rows: n, rest: k } = key.set();
     if published.len() != n * bytes_for(k) {

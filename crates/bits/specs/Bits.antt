@@ -1,4 +1,4 @@
--- Bit vectors as functions of the index, and how a vector fills bytes. Assumes nothing.
+-- Bit vectors as functions of the index, and how a vector fills bytes; unit_byte is for private functions. Assumes nothing.
 use Rattle.std.specs.Prelude.{ℕ, zero, suc, ◌+◌, ◌*◌, ◌/◌, ◌%◌, ◌^◌, cond, List, map, nat_lt, ◌==◌, slice_index}
 use Rattle.std.specs.List.{range_with_len}
 use Rattle.matrix.specs.Matrix.{Mat}
@@ -11,15 +11,15 @@ bytes_for n = (n + 7) / 8
 unfoldable pub bit_of : ℕ → ℕ → ℕ
 bit_of b k = b / 2 ^ k % 2
 
--- bit i of a byte string
+-- bit i of a byte string; 0 past its end
 unfoldable pub bits_of : List ℕ → ℕ → ℕ
 bits_of xs i = bit_of (slice_index xs (i / 8)) (i % 8)
 
--- bit k of a byte string from byte `at` on
+-- bit k of a byte string from byte `at` on; 0 past its end
 unfoldable pub bits_from : ℕ → List ℕ → ℕ → ℕ
 bits_from at xs k = bit_of (slice_index xs (at + k / 8)) (k % 8)
 
--- the matrix whose rows stand one after another in w bytes each
+-- the matrix whose rows stand one after another in w bytes each; 0 past the end
 unfoldable pub of_rows : ℕ → List ℕ → Mat
 of_rows w xs i j = bit_of (slice_index xs (i * w + j / 8)) (j % 8)
 

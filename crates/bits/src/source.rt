@@ -1,5 +1,5 @@
 // A source of bits, and its bytes: written once for all that computes a vector bit by bit.
-ghost use Rattle.std.specs.Prelude.{◌≡◌, ℕ, ◌+◌, ◌*◌, ◌/◌, ◌<◌, length, if◌then◌else◌, nat_eq};
+ghost use Rattle.std.specs.Prelude.{◌≡◌, ℕ, ◌+◌, ◌*◌, ◌<◌, length, if◌then◌else◌, nat_eq};
 ghost use Rattle.bits.specs.Bits.{bytes_for, byte_at, pad_bit, pack};
 
 use super::bytes_for;

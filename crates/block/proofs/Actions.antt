@@ -10,8 +10,8 @@ use Rattle.bits.specs.Bits.{bit_of, bits_of, pack}
 use Rattle.bits.proofs.Packs.{low_bit, bits-lt, sum_lt, pack-cong}
 use Rattle.bits.proofs.Bytes.{bit-and, bit-scaled, sum-bit, sum-blocks, sum-rest}
 use Rattle.params.specs.Known.{known}
-use Rattle.goppa.specs.Checks.{value, share, checks}
-use Rattle.block.specs.Lanes.{stacked, word_of, odd, crossed}
+use Rattle.goppa.specs.Checks.{value, ratio, checks}
+use Rattle.block.specs.Lanes.{stacked, word_of, parity_of, crossed}
 use Rattle.block.proofs.Shares.{scaled-share}
 use Rattle.block.proofs.Words.{bit_high, word_lt}
 
@@ -20,14 +20,14 @@ unfolding bit_of
 bit-of x k = refl
 
 -- row r of a column, by its word and its bit
-check-bit : (m f t : ℕ) (g a : ℕ → ℕ) (r j : ℕ) → checks m f t g a r j ≡ bit_of (share m f t g (a j) (r / m)) (r % m)
+check-bit : (m f t : ℕ) (g a : ℕ → ℕ) (r j : ℕ) → checks m f t g a r j ≡ bit_of (ratio m f t g (a j) (r / m)) (r % m)
 unfolding checks
-check-bit m f t g a r j = sym (bit-of (share m f t g (a j) (r / m)) (r % m))
+check-bit m f t g a r j = sym (bit-of (ratio m f t g (a j) (r / m)) (r % m))
 
 -- the parity of the words against words w
 odd-crossed : (m t : ℕ) (w s : ℕ → ℕ) → m ≤ 16 → ((i : ℕ) → i < t → w i < 2 ^ m)
-    → odd (sum t (λ i. bit_and (w i) (s i))) ≡ sum (m * t) (λ r. both (bit_of (w (r / m)) (r % m)) (bit_of (s (r / m)) (r % m)))
-unfolding odd
+    → parity_of (sum t (λ i. bit_and (w i) (s i))) ≡ sum (m * t) (λ r. both (bit_of (w (r / m)) (r % m)) (bit_of (s (r / m)) (r % m)))
+unfolding parity_of
 odd-crossed m t w s h small =
     let x = sum t (λ i. bit_and (w i) (s i)) in
     let lt : x < 2 ^ m = sum_lt m t (λ i. bit_and (w i) (s i)) (λ i l. let p = small i l in let q = and_le_l (w i) (s i) in omega arith) in
@@ -49,30 +49,30 @@ word-bit m v r pos =
 -- an entry of v times the check block, by words
 pub crossed-row : (m f t : ℕ) (g a : ℕ → ℕ) (v words : List ℕ) (y j : ℕ) → 0 < m → m ≤ 13 → known m f ≡ true
     → ((i : ℕ) → i < t → get_or words i 0 ≡ word_of m v i) → y ≡ inverse_of m f (value m f t g (a j))
-    → odd (crossed m f t words (a j) y) ≡ apply_row bits (m * t) (checks m f t g a) (bits_of v) j
+    → parity_of (crossed m f t words (a j) y) ≡ apply_row bits (m * t) (checks m f t g a) (bits_of v) j
 unfolding crossed apply_row
 crossed-row m f t g a v words y j pos h k hw hy =
-    ap odd (sum-cong t _ _ (λ i l. ap₂ bit_and (hw i l) (scaled-share m f t g (a j) y i k hy)))
-    ∙ odd-crossed m t (word_of m v) (share m f t g (a j)) (omega arith) (λ i l. word_lt v (i * m) m)
+    ap parity_of (sum-cong t _ _ (λ i l. ap₂ bit_and (hw i l) (scaled-share m f t g (a j) y i k hy)))
+    ∙ odd-crossed m t (word_of m v) (ratio m f t g (a j)) (omega arith) (λ i l. word_lt v (i * m) m)
     ∙ sum-cong (m * t) _ _ (λ r l. ap₂ both (word-bit m v r pos) (sym (check-bit m f t g a r j)))
 
 -- the sum of the columns that v chooses, by words
 pub stacked-sum : (m f t : ℕ) (g a : ℕ → ℕ) (v words : List ℕ) → 0 < m
-    → ((i : ℕ) → i < t → get_or words i 0 ≡ sum (m * t) (λ j. bits_of v j * share m f t g (a j) i))
+    → ((i : ℕ) → i < t → get_or words i 0 ≡ sum (m * t) (λ j. bits_of v j * ratio m f t g (a j) i))
     → pack (m * t) (stacked m words) ≡ pack (m * t) (apply bits (m * t) (checks m f t g a) (bits_of v))
 unfolding apply
 stacked-sum m f t g a v words pos h =
     pack-cong (m * t) _ _ (λ r l.
     ap (λ x. bit_of x (r % m)) (h (r / m) (div_below r m t pos (omega (arith, mul_comm m t))))
-    ∙ sum-bit (m * t) (r % m) (λ j. bits_of v j * share m f t g (a j) (r / m))
+    ∙ sum-bit (m * t) (r % m) (λ j. bits_of v j * ratio m f t g (a j) (r / m))
     ∙ sum-cong (m * t) _ _ (λ j _.
-    bit-scaled (bits_of v j) (share m f t g (a j) (r / m)) (r % m) (bits-lt v j)
-    ∙ bits.mul_comm (bits_of v j) (bit_of (share m f t g (a j) (r / m)) (r % m))
+    bit-scaled (bits_of v j) (ratio m f t g (a j) (r / m)) (r % m) (bits-lt v j)
+    ∙ bits.mul_comm (bits_of v j) (bit_of (ratio m f t g (a j) (r / m)) (r % m))
     ∙ ap (λ x. both x (bits_of v j)) (sym (check-bit m f t g a r j))))
 
 -- one column, by words
 pub stacked-column : (m f t : ℕ) (g a : ℕ → ℕ) (words : List ℕ) (j : ℕ) → 0 < m
-    → ((i : ℕ) → i < t → get_or words i 0 ≡ share m f t g (a j) i)
+    → ((i : ℕ) → i < t → get_or words i 0 ≡ ratio m f t g (a j) i)
     → pack (m * t) (stacked m words) ≡ pack (m * t) (λ r. checks m f t g a r j)
 stacked-column m f t g a words j pos h =
     pack-cong (m * t) _ _ (λ r l.

@@ -5,7 +5,7 @@ use Rattle.galois.specs.Gf.{times, inverse_of}
 use Rattle.galois.proofs.Ring.{times-comm, times-assoc, times-one}
 use Rattle.galois.proofs.Shown.{inverse-of-lt}
 use Rattle.params.specs.Known.{known}
-use Rattle.goppa.specs.Checks.{power, value, share}
+use Rattle.goppa.specs.Checks.{power, value, ratio}
 use Rattle.block.specs.Lanes.{scaled}
 
 abbrev Degree : ℕ → ℕ → Type 0
@@ -36,8 +36,8 @@ unfolding scaled power
 scaled-times m f x y zero pos top h = sym (times-comm m f top 1 y ∙ times-one m f top pos y ∙ mod-eq_of_lt h)
 scaled-times m f x y (suc i) pos top h = ap (times m f x) (scaled-times m f x y i pos top h) ∙ sym (times-assoc m f top x (power m f x i) y)
 
-pub scaled-share : (m f t : ℕ) (g : ℕ → ℕ) (x y i : ℕ) → known m f ≡ true → y ≡ inverse_of m f (value m f t g x) → scaled m f x y i ≡ share m f t g x i
-unfolding share
+pub scaled-share : (m f t : ℕ) (g : ℕ → ℕ) (x y i : ℕ) → known m f ≡ true → y ≡ inverse_of m f (value m f t g x) → scaled m f x y i ≡ ratio m f t g x i
+unfolding ratio
 scaled-share m f t g x y i k e =
     let d = known-degree m f k in
     ap (λ z. scaled m f x z i) e

@@ -11,23 +11,23 @@ use Rattle.matrix.proofs.Sums.{sum-cong, sum-zero}
 use Rattle.bits.specs.Bits.{bit_of, bits_of, low, pad_bit, byte_at, bytes_for}
 use Rattle.bits.proofs.Packs.{low-cong, low-lt, bits-lt, bit-lt, bit-zero, sum_lt, pad-out}
 use Rattle.bits.proofs.Bytes.{sum-mod-bits, sum-add}
-use Rattle.block.specs.Lanes.{scaled, odd, crossed}
+use Rattle.block.specs.Lanes.{scaled, parity_of, crossed}
 
 high_bit : (x k : ℕ) → bit_of (x / 256) k ≡ bit_of x (8 + k)
 unfolding bit_of
 high_bit x k = ap (λ y. y % 2) (shr-shr x 8 k)
 
 -- the parity of a word by its two bytes
-pub odd-halves : (x : ℕ) → bit_xor (sum 8 (bit_of (x % 256))) (sum 8 (bit_of (x / 256))) ≡ odd x
-unfolding odd
+pub odd-halves : (x : ℕ) → bit_xor (sum 8 (bit_of (x % 256))) (sum 8 (bit_of (x / 256))) ≡ parity_of x
+unfolding parity_of
 odd-halves x = ap₂ bit_xor (sum-mod-bits x 8 (omega arith)) (sum-cong 8 _ _ (λ k h. high_bit x k)) ∙ sym (sum-add 8 8 (bit_of x))
 
-pub odd-lt : (x : ℕ) → odd x < 2
-unfolding odd
+pub odd-lt : (x : ℕ) → parity_of x < 2
+unfolding parity_of
 odd-lt x = sum_lt 1 16 (bit_of x) (λ k h. bit-lt x k)
 
-pub odd-zero : odd 0 ≡ 0
-unfolding odd
+pub odd-zero : parity_of 0 ≡ 0
+unfolding parity_of
 odd-zero = sum-zero 16 (bit_of 0) (λ k h. bit-zero k)
 
 -- no bits past the width

@@ -1,4 +1,5 @@
--- Columns and rows of the check matrix by words: numbers of m bits each. Assumes nothing.
+-- Columns and rows of the check matrix by words: numbers of m bits each. What private functions promise; no public
+-- contract cites it. Assumes nothing.
 use Rattle.std.specs.Prelude.{ℕ, zero, suc, ◌+◌, ◌*◌, ◌/◌, ◌%◌, List, bit_and, slice_index}
 use Rattle.galois.specs.Gf.{times}
 use Rattle.matrix.specs.Matrix.{sum}
@@ -18,9 +19,9 @@ abbrev pub word_of : ℕ → List ℕ → ℕ → ℕ
 word_of m v i = low m (λ b. bits_of v (i * m + b))
 
 -- the sum of the bits of a word
-unfoldable pub odd : ℕ → ℕ
-odd x = sum 16 (bit_of x)
+unfoldable pub parity_of : ℕ → ℕ
+parity_of x = sum 16 (bit_of x)
 
--- the first t words, each and the bits of y, x y, x^2 y, .., summed up
+-- the sum, for i below t, of the bits that word i has in common with x^i y
 unfoldable pub crossed : (m f t : ℕ) → List ℕ → (x y : ℕ) → ℕ
 crossed m f t words x y = sum t (λ i. bit_and (slice_index words i) (scaled m f x y i))

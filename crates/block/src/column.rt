@@ -1,8 +1,7 @@
 // Columns of the check matrix, and their sums: t words of m bits, written one after another.
-ghost use Rattle.std.specs.Prelude.{◌≡◌, ℕ, ◌*◌, ◌/◌, ◌%◌, ◌<◌, ◌≤◌, length, bit_xor, slice_index};
+ghost use Rattle.std.specs.Prelude.{◌≡◌, ℕ, ◌*◌, ◌/◌, ◌%◌, ◌<◌, length, bit_xor, slice_index};
 ghost use Rattle.galois.specs.Bit.{bits as two};
-ghost use Rattle.matrix.specs.Matrix.{apply};
-ghost use Rattle.bits.specs.Bits.{bits_of, bytes_for, pack};
+ghost use Rattle.bits.specs.Bits.{bytes_for};
 ghost use Rattle.operator.specs.Actions.{ColumnAction};
 ghost use Rattle.key.specs.Columns.{ColumnGiven};
 ghost use Rattle.goppa.specs.Loading.{check_matrix};

@@ -4,12 +4,11 @@
 ghost use Rattle.std.specs.Prelude.{◌≡◌, ℕ, ◌+◌, ◌-◌, ◌*◌, ◌/◌, ◌^◌, ◌<◌, ◌≤◌, min, length, bit_and, bit_xor, slice_index};
 ghost use Rattle.galois.specs.Gf.{times};
 ghost use Rattle.galois.specs.Bit.{bits as two};
-ghost use Rattle.matrix.specs.Matrix.{apply_row};
 ghost use Rattle.bits.specs.Bits.{bytes_for, pack};
 ghost use Rattle.operator.specs.Actions.{RowAction};
 ghost use Rattle.goppa.specs.Loading.{check_matrix};
 ghost use Rattle.guard.specs.Zero.{AllZero};
-ghost use Rattle.block.specs.Lanes.{crossed, word_of, odd};
+ghost use Rattle.block.specs.Lanes.{crossed, word_of, parity_of};
 ghost use Rattle.block.specs.Slots.{rows_of, column_crossed};
 
 use super::LentWords;
@@ -117,7 +116,7 @@ fn cross_in(set: ParameterSet, words: &[u16], lanes: &mut Lanes)
 
 // The sum of the bits of a word.
 fn word_parity(x: u16) -> u8
-    ensures value { result ≡ odd x }
+    ensures value { result ≡ parity_of x }
     ensures small { result < 2 }
 {
     let [low, high] = x.to_le_bytes();
@@ -131,7 +130,7 @@ struct Parities<'a> {
 }
 
 impl BitSource for Parities<'_> {
-    ghost vector = { λ s k. odd (slice_index s.words.now k) };
+    ghost vector = { λ s k. parity_of (slice_index s.words.now k) };
 
     fn bit(&self, i: usize) -> u8 {
         if i < self.words.len() {
@@ -165,23 +164,21 @@ impl LentWords<'_, '_> {
     // Writes the words times the columns of a block.
     fn write_block(&self, block: Block, lanes: &mut Lanes, out: &mut [u8])
         requires { length out.old ≡ bytes_for block.count }
-        ensures { out.new ≡ pack block.count (λ k. odd (column_crossed self.now.slot.now self.now.words.now (block.at + k))) }
+        ensures { out.new ≡ pack block.count (λ k. parity_of (column_crossed self.now.slot.now self.now.words.now (block.at + k))) }
     {
         self.cross_columns(block, lanes);
         write_bits(&Parities { words: &lanes.sums }, block.count, out)
     }
 
-    // Writes the words times the check block.
-    fn write_blocks(&self, out: &mut [u8])
+    // Writes the words times the check block. The lanes are cleared.
+    fn write_blocks(&self, lanes: &mut Lanes, out: &mut [u8])
         requires { length out.old ≡ bytes_for (rows_of self.now.slot.now) }
-        ensures { out.new ≡ pack (rows_of self.now.slot.now) (λ j. odd (column_crossed self.now.slot.now self.now.words.now j)) }
+        ensures written { out.new ≡ pack (rows_of self.now.slot.now) (λ j. parity_of (column_crossed self.now.slot.now self.now.words.now j)) }
+        ensures xs { AllZero lanes.new.xs }
+        ensures powers { AllZero lanes.new.powers }
+        ensures sums { AllZero lanes.new.sums }
     {
         let n = self.slot.set.rows();
-        let mut lanes = Lanes {
-            xs: [0; LANES],
-            powers: [0; LANES],
-            sums: [0; LANES],
-        };
         let blocks = n.div_ceil(LANES);
         // by number: after chunks_mut a proof knows nothing of what was written
         for b in 0..blocks {
@@ -189,7 +186,7 @@ impl LentWords<'_, '_> {
             let count = (n - at).min(LANES);
             let first = at / 8;
             let end = first + bytes_for(count);
-            self.write_block(Block { at, count }, &mut lanes, &mut out[first..end]);
+            self.write_block(Block { at, count }, lanes, &mut out[first..end]);
         }
         lanes.clear();
     }
@@ -203,6 +200,11 @@ pub(crate) fn row_action(slot: &KeySlot, v: &[u8], out: &mut [u8]) -> Result<(),
     let mut memory = [0u16; 128];
     let mut vector = LentWords::new(slot, &mut memory[..slot.set.t]);
     vector.take(v);
-    vector.write_blocks(out);
+    let mut lanes = Lanes {
+        xs: [0; LANES],
+        powers: [0; LANES],
+        sums: [0; LANES],
+    };
+    vector.write_blocks(&mut lanes, out);
     Ok(())
 }

@@ -4,14 +4,18 @@ use Prim.Native.Nat.{ℕ, ◌%◌, ◌^◌, ◌<◌}
 use native.Mathlib.Nat.{mod-eq_of_lt, mod-lt}
 use lib.Bits.{bit_xor, xor_lt}
 use lib.Pow.{pow_pos}
+use Rattle.std.specs.Int.Bits.{bit_and, and_step}
+use Rattle.std.proofs.Common.{arith}
+use Rattle.std.proofs.lemmas.Nat.{and_mask}
 use Rattle.galois.specs.Arith.{Arith}
+use Rattle.galois.specs.Bit.{both}
 use Rattle.galois.specs.Gf.{times, inverse_of}
 
 -- the number r of a cell is the element y
 abbrev pub Holds : (w r y : ℕ) → Type 0
 Holds w r y = (r % 2 ^ w ≡ y) × (r < 2 ^ w)
 
-low-lt : (w x : ℕ) → x % 2 ^ w < 2 ^ w
+pub low-lt : (w x : ℕ) → x % 2 ^ w < 2 ^ w
 low-lt w x = mod-lt x (pow_pos w)
 
 holds : (w r s y : ℕ) → y < 2 ^ w → s ≡ y → r ≡ s % 2 ^ w → Holds w r y
@@ -39,3 +43,11 @@ module _ (F : Arith) (w f : ℕ) (wide : F.width ≡ w) where
   inverse-cell law x a s r ea es er =
       let h : F.inv (x % 2 ^ w) < 2 ^ w = subst (λ (v : ℕ). F.inv (x % 2 ^ w) < 2 ^ v) wide (F.inv-lt (x % 2 ^ w)) in
       holds w r s (F.inv (x % 2 ^ w)) h (es ∙ ap (inverse_of w f) ea ∙ sym (law (x % 2 ^ w))) er
+
+-- the product of two bytes as bits
+pub bit-product : (x y : ℕ) → bit_and (bit_and x y) 1 ≡ both x y
+bit-product x y = omega (arith, and_mask (bit_and x y) 1, and_step x y)
+
+-- it is a bit
+pub bit-lt : (x : ℕ) → bit_and x 1 < 2
+bit-lt x = omega (arith, and_mask x 1)

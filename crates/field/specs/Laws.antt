@@ -3,6 +3,7 @@ use Rattle.std.specs.Prelude.{ℕ, ◌≡◌, ◌/◌, ◌^◌, ◌≤◌}
 use Rattle.galois.specs.Arith.{Arith}
 use Rattle.galois.specs.Gf.{times, inverse_of}
 
+-- f has degree w, and a is the arithmetic modulo f
 pub record Laws (w f : ℕ) (a : Arith) : Type 0 where
   -- twice an element still fits 16 bits
   pub narrow : w ≤ 15

@@ -6,14 +6,14 @@ use Rattle.std.proofs.lemmas.List.FromFn.{fill_by_all}
 use Rattle.std.proofs.lemmas.List.{get_or-take, length-take-le}
 use Rattle.std.proofs.lemmas.Bool.{eq-eqb, cases_lt, cond-false, le-ltb}
 use Rattle.galois.specs.Gf.{times, shifted, times_z, inverse_of}
-use Rattle.matrix.specs.Matrix.{sum}
+use Rattle.matrix.specs.Matrix.{sum, Elements}
 use Rattle.matrix.specs.Search.{least, found}
 use Rattle.matrix.proofs.Sums.{sum-cong}
 use Rattle.params.specs.Sets.{practice12}
 use Rattle.params.specs.declared.numbers.Numbers.{Numbers}
 use Rattle.goppa.specs.Checks.{value, power}
-use Rattle.goppa.specs.Keys.{Elements, Distinct, Rootless, Inverses}
-use Rattle.goppa.specs.Loading.{Key, some, entry_in, support_in, large, repeated, root, large_in, repeated_in, root_in, InversesIn, key_in, refused_at, unless, read_as}
+use Rattle.goppa.specs.Keys.{Distinct, Rootless, Inverses}
+use Rattle.goppa.specs.Loading.{Key, any, entry_in, support_in, large, repeated, root, large_in, repeated_in, root_in, InversesIn, key_in, refused_at, unless, read_as}
 use Rattle.goppa.specs.declared.fault.LoadFault.TheVariants.{Large, Repeated, Root}
 use Rattle.goppa.proofs.Founds.{not-found}
 use Rattle.goppa.proofs.Repeats.{some-true}
@@ -106,7 +106,7 @@ unfolding least
 fresh-small = refl
 
 fresh-apart : found 12 (repeated (support_in 2 fresh-bytes)) ≡ None
-unfolding least some
+unfolding least any
 fresh-apart = refl
 
 fresh-nonzero : found 12 (root 4 19 2 (entry_in fresh-bytes) (support_in 2 fresh-bytes)) ≡ None

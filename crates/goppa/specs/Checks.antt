@@ -14,9 +14,9 @@ unfoldable pub value : (m f t : ℕ) → (ℕ → ℕ) → ℕ → ℕ
 value m f t g x = bit_xor (power m f x t) (sum t (λ i. times m f (g i) (power m f x i)))
 
 -- x^i / g(x)
-unfoldable pub share : (m f t : ℕ) → (ℕ → ℕ) → ℕ → ℕ → ℕ
-share m f t g x i = times m f (power m f x i) (inverse_of m f (value m f t g x))
+unfoldable pub ratio : (m f t : ℕ) → (ℕ → ℕ) → ℕ → ℕ → ℕ
+ratio m f t g x i = times m f (power m f x i) (inverse_of m f (value m f t g x))
 
 -- the private check matrix of g on the support a: row i m + b of column j is bit b of a_j^i / g(a_j)
 unfoldable pub checks : (m f t : ℕ) → (ℕ → ℕ) → (ℕ → ℕ) → Mat
-checks m f t g a r j = share m f t g (a j) (r / m) / 2 ^ (r % m) % 2
+checks m f t g a r j = ratio m f t g (a j) (r / m) / 2 ^ (r % m) % 2

@@ -1,12 +1,12 @@
--- What every key slot holds: the coefficients g_0 to g_(t-1) of g, the support a_0 to a_(n-1), and
--- the inverses of g on it. Assumes nothing.
-use Rattle.std.specs.Prelude.{◌≡◌, ℕ, ◌^◌, ◌<◌, ◌≢◌}
+-- What every key slot holds: the coefficients g_0 to g_(t-1) of g, the support a_0 to a_(n-1), the
+-- inverses of g on it, and 0 past them. Assumes nothing.
+use Rattle.std.specs.Prelude.{◌≡◌, ℕ, ◌<◌, ◌≤◌, ◌≢◌, List, length, slice_index}
 use Rattle.galois.specs.Gf.{inverse_of}
 use Rattle.goppa.specs.Checks.{value}
 
--- the first n of e are elements of the field
-abbrev pub Elements : (m n : ℕ) → (ℕ → ℕ) → Type 0
-Elements m n e = (k : ℕ) → k < n → e k < 2 ^ m
+-- the cells of xs from n on are 0
+abbrev pub ZeroFrom : (n : ℕ) → List ℕ → Type 0
+ZeroFrom n xs = (k : ℕ) → n ≤ k → k < length xs → slice_index xs k ≡ 0
 
 -- the support has no repeats
 abbrev pub Distinct : (n : ℕ) → (ℕ → ℕ) → Type 0

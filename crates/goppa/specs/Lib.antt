@@ -1,4 +1,3 @@
 pub mod Checks
 pub mod Keys
-pub mod Marks
 pub mod Loading

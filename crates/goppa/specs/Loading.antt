@@ -1,21 +1,17 @@
 -- What loading a key gives, and what a slot means. Assumes nothing.
--- entry_in       an entry in the bytes of a key
--- support_in     the support in them
--- large         the tests of loading, at one entry each
--- repeated
--- root
--- large_in      the same, on bytes
--- repeated_in
--- root_in
--- InversesIn    the inverses of g on the support in bytes
--- Key           a key: set, coefficients, support
--- key_of         the key in a slot
--- check_matrix   the private check matrix of a slot
--- fresh         the key of a new slot
--- loaded        the key in the bytes under a name, or the refusal
--- outcome       what loading returns
--- held          what the slot then holds
--- told_loading   how loading's faults are told
+-- entry_in, support_in        an entry in the bytes of a key; the support in them
+-- any                        any number below a bound passes a test
+-- large, repeated, root       the tests of loading, at one entry each
+-- large_in, ..                the same, on bytes
+-- InversesIn                  the inverses of g on the support in bytes, for private functions
+-- Key                         a key: set, coefficients, support
+-- key_of, key_in              the key in a slot; in bytes
+-- check_matrix                the private check matrix of a slot
+-- fresh                       the key of a new slot
+-- refused_at, unless          a refusal at the first place that passes a test
+-- read_as, read_by, loaded    the key in bytes, or the refusal: under a set, where it is found, under a name
+-- outcome, held               what loading returns, and what the slot then holds
+-- told_loading                how loading's faults are told
 use Rattle.std.specs.Prelude.{ℕ, zero, suc, ◌+◌, ◌*◌, ◌^◌, Bool, false, cond, not, ◌||◌, List, [], ◌∷◌, map, length, take, Option, Some, None, Ok, Err, Result, ◌==◌, nat_eq, nat_lt, slice_index}
 use Rattle.std.specs.List.{range_with_len}
 use Rattle.matrix.specs.Matrix.{Mat}
@@ -40,10 +36,10 @@ entry_in bs k = slice_index bs (2 * k) + 256 * slice_index bs (2 * k + 1)
 abbrev pub support_in : (t : ℕ) → List ℕ → ℕ → ℕ
 support_in t bs j = entry_in bs (t + j)
 
--- some number below n passes the test
-unfoldable pub some : ℕ → (ℕ → Bool) → Bool
-some zero p = false
-some (suc n) p = some n p || p n
+-- any number below n passes the test
+unfoldable pub any : ℕ → (ℕ → Bool) → Bool
+any zero p = false
+any (suc n) p = any n p || p n
 
 -- entry k is no element of the field
 abbrev pub large : (m : ℕ) → (ℕ → ℕ) → ℕ → Bool
@@ -51,7 +47,7 @@ large m e k = not (nat_lt (e k) (2 ^ m))
 
 -- a_j is among the a_i before it
 abbrev pub repeated : (ℕ → ℕ) → ℕ → Bool
-repeated a j = some j (λ i. nat_eq (a i) (a j))
+repeated a j = any j (λ i. nat_eq (a i) (a j))
 
 -- g is zero at a_j
 abbrev pub root : (m f t : ℕ) → (ℕ → ℕ) → (ℕ → ℕ) → ℕ → Bool

@@ -1,16 +1,17 @@
 // The bytes of a key under a set, and what loading asks of them.
-ghost use Rattle.std.specs.Prelude.{◌≡◌, ℕ, ◌+◌, ◌*◌, ◌/◌, ◌<◌, ◌≤◌, length, ◌==◌, bit_xor, slice_index};
-ghost use Rattle.matrix.specs.Matrix.{delta};
+ghost use Rattle.std.specs.Prelude.{◌≡◌, ℕ, ◌+◌, ◌*◌, ◌/◌, ◌<◌, ◌≤◌, length, replicate, bit_xor, slice_index};
+ghost use Rattle.matrix.specs.Matrix.{delta, Elements};
 ghost use Rattle.matrix.specs.Search.{found};
+ghost use Rattle.bits.specs.Bits.{bits_of};
 ghost use Rattle.params.specs.Sets.{numbers};
 ghost use Rattle.goppa.specs.Checks.{value};
-ghost use Rattle.goppa.specs.Keys.{Elements};
-ghost use Rattle.goppa.specs.Marks.{marked};
+ghost use Rattle.goppa.specs.Keys.{ZeroFrom};
 ghost use Rattle.goppa.specs.Loading.{entry_in, support_in, large_in, repeated_in, root_in, InversesIn};
 
 mod load;
 
 use crate::over_field;
+use bits::get_bit;
 use field::Field;
 use params::set::ParameterSet;
 use std::marker::PhantomData;
@@ -49,7 +50,8 @@ impl KeyBytes<'_> {
     // Writes count entries from the entry at on, and 0 past them: nothing of an older key stays.
     fn write_entries(&self, at: usize, count: usize, out: &mut [u16])
         requires { at + count ≤ self.now.set.t + self.now.set.n }
-        ensures { (k : ℕ) → k < length out.old → k < count → slice_index out.new k ≡ entry_in self.now.bytes.now (at + k) }
+        ensures entries { (k : ℕ) → k < length out.old → k < count → slice_index out.new k ≡ entry_in self.now.bytes.now (at + k) }
+        ensures rest { ZeroFrom count out.new }
     {
         for (k, x) in out.iter_mut().enumerate() {
             *x = if k < count { self.entry(at + k) } else { 0 };
@@ -57,16 +59,10 @@ impl KeyBytes<'_> {
     }
 }
 
-fn is_marked(map: &[u8], x: usize) -> bool
-    requires { x / 8 < length map.now }
-    ensures { result ≡ (marked map.now x == 1) }
-{
-    (map[x / 8] >> (x % 8)) & 1 == 1
-}
-
+// Bit x of the map is the mark of x.
 fn flip_mark(map: &mut [u8], x: usize)
     requires { x / 8 < length map.old }
-    ensures { (y : ℕ) → marked map.new y ≡ bit_xor (marked map.old y) (delta x y) }
+    ensures { (y : ℕ) → bits_of map.new y ≡ bit_xor (bits_of map.old y) (delta x y) }
 {
     map[x / 8] ^= 1 << (x % 8);
 }
@@ -83,18 +79,30 @@ impl KeyElements<'_> {
     // The first place in the support whose entry stands before it too. Marks what it has seen.
     fn find_repeat(&self, map: &mut [u8]) -> Option<usize>
         requires room { length map.old ≡ 1024 }
-        requires clear { (x : ℕ) → marked map.old x ≡ 0 }
+        requires clear { (x : ℕ) → bits_of map.old x ≡ 0 }
         ensures { result ≡ found self.now.key.set.n (repeated_in (numbers self.now.key.set) self.now.key.bytes.now) }
     {
         // a loop, since each step also marks what it saw
         for j in 0..self.key.set.n {
             let x = usize::from(self.point(j));
-            if is_marked(map, x) {
+            if get_bit(map, x) == 1 {
                 return Some(j);
             }
             flip_mark(map, x);
         }
         None
+    }
+
+    // The same; the map tells of the support, so it is cleared.
+    fn first_repeat_on(&self, map: &mut [u8]) -> Option<usize>
+        requires room { length map.old ≡ 1024 }
+        requires clear { (x : ℕ) → bits_of map.old x ≡ 0 }
+        ensures place { result ≡ found self.now.key.set.n (repeated_in (numbers self.now.key.set) self.now.key.bytes.now) }
+        ensures cleared { map.new ≡ replicate (length map.old) 0 }
+    {
+        let at = self.find_repeat(map);
+        map.fill(0);
+        at
     }
 
     // The first place in the support whose entry stands before it too.
@@ -103,10 +111,7 @@ impl KeyElements<'_> {
     {
         // for the largest set: the card has no heap
         let mut map = [0u8; 1024];
-        let at = self.find_repeat(&mut map);
-        // the map tells of the support
-        map.fill(0);
-        at
+        self.first_repeat_on(&mut map)
     }
 
     // The first place in the support where g is 0.
@@ -125,7 +130,8 @@ impl KeyElements<'_> {
     // Writes 1 / g at each entry of the support, and 0 past them: nothing of an older key stays.
     fn write_inverses(&self, out: &mut [u16])
         requires { self.now.key.set.n ≤ length out.old }
-        ensures { InversesIn (numbers self.now.key.set) self.now.key.bytes.now (λ j. slice_index out.new j) }
+        ensures inverses { InversesIn (numbers self.now.key.set) self.now.key.bytes.now (λ j. slice_index out.new j) }
+        ensures rest { ZeroFrom self.now.key.set.n out.new }
     {
         over_field!(
             self.key.set,
@@ -179,7 +185,8 @@ fn find_root<F: Field>(g: &InField<F>) -> Option<usize>
 
 fn invert_values<F: Field>(g: &InField<F>, out: &mut [u16])
     requires { g.now.elements.key.set.n ≤ length out.old }
-    ensures { InversesIn (numbers g.now.elements.key.set) g.now.elements.key.bytes.now (λ j. slice_index out.new j) }
+    ensures inverses { InversesIn (numbers g.now.elements.key.set) g.now.elements.key.bytes.now (λ j. slice_index out.new j) }
+    ensures rest { ZeroFrom g.now.elements.key.set.n out.new }
 {
     let elements = g.elements;
     for (j, y) in out.iter_mut().enumerate() {

@@ -1,5 +1,5 @@
 // The private key: the check matrix of a Goppa polynomial as a definition, and the key slot.
-// Every slot holds a key of its set, with a support without repeats on which g is not zero; loading
+// Every slot holds a key of its set and 0 past it, with a support without repeats on which g is not zero; loading
 // takes a key whole, or refuses it and leaves the slot as it was. Crate block makes an operator of it.
 #![tactic(auto)]
 

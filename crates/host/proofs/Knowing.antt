@@ -6,6 +6,7 @@ use Rattle.galois.specs.Bit.{bits, both}
 use Rattle.matrix.specs.Matrix.{Mat, Els, sum, times, apply_row}
 use Rattle.matrix.proofs.Sums.{sum-cong}
 use Rattle.bits.specs.Bits.{bytes_for, bits_of, pack}
+use Rattle.bits.specs.Bytes.{laid}
 use Rattle.bits.proofs.Packs.{bits-pack-in, length-pack}
 use Rattle.solver.specs.Answers.{Solves}
 use Rattle.solver.specs.declared.Solved.{Solved}
@@ -13,10 +14,10 @@ use Rattle.solver.specs.declared.Solved.TheVariants.{Inverse, Dependent}
 use Rattle.host.specs.declared.stage.Stage.{Stage}
 use Rattle.host.specs.declared.stage.Stage.TheVariants.{Columns, Full, Status, Rows, Combination, Done}
 use Rattle.host.specs.declared.fault.HostFault.{HostFault}
-use Rattle.host.specs.Frames.{bit_table, laid, frame_of, is_column, is_status, next_row, with_column}
+use Rattle.host.specs.Frames.{bit_table, frame_of, is_column, is_status, next_row, with_cells}
 use Rattle.host.specs.Stages.{within, after_column, after_row, after_status, after_reply}
-use Rattle.host.specs.Steps.{fits, frame_length, written, Moved, Said, Spoken, awaited, kept, Heard}
-use Rattle.host.specs.Meaning.{Knows, Sends, Speaks, Told, Learns}
+use Rattle.host.specs.Steps.{fits, spoken_length, written, Moved, Said, Spoken, awaited, kept, Heard}
+use Rattle.host.specs.Meaning.{Knows, Sends, Speaks, RepliedBy, Learns}
 use Rattle.host.proofs.Tables.{table-bit, column-heard}
 use Rattle.host.proofs.Solving.{solves-same}
 
@@ -70,7 +71,7 @@ moves n B (Combination r) st' xs xs' ys ys' w h m = (
 moves n B Done st' xs xs' ys ys' w h m = (carried n B Done st' xs xs' ys ys' m.0 m.1 m.2 tt, refl)
 
 -- the frame in its memory is the stage's
-frame-written : (n : ℕ) (st : Stage) (ys fr : List ℕ) → written (Ok (frame_length n st)) (laid (frame_of n st ys) fr) ≡ frame_of n st ys
+frame-written : (n : ℕ) (st : Stage) (ys fr : List ℕ) → written (Ok (spoken_length n st)) (laid (frame_of n st ys) fr) ≡ frame_of n st ys
 frame-written n (Columns j) ys fr = refl
 frame-written n Full ys fr = refl
 frame-written n (Status s) ys fr = refl
@@ -92,7 +93,7 @@ speaks n B st st' xs xs' ys ys' fr fr' r n' w d ok h = go (fits n (length xs) (l
         record { knows = m.0; sends = subst (Sends n B st) (sym (written-is n st st' xs xs' ys ys' fr fr' r (d.said e))) m.1 }
     go false e = absurd (false≢true (sym (ap is_ok (d.refused e).fault) ∙ ok))
 
-frame-fits : (n : ℕ) (st : Stage) (m : ℕ) → m ≡ bytes_for n + 3 → IfSome (frame_length n st) (λ k. k ≤ m)
+frame-fits : (n : ℕ) (st : Stage) (m : ℕ) → m ≡ bytes_for n + 3 → IfSome (spoken_length n st) (λ k. k ≤ m)
 frame-fits n (Columns j) m e = omega arith
 frame-fits n Full m e = omega arith
 frame-fits n (Status s) m e = omega arith
@@ -135,7 +136,7 @@ status-after n B (Dependent r) i xs ys h = h.combination
 
 -- a reply of a card with B is awaited, tells the next row, and keeps what is known
 module _ (n : ℕ) (B : Mat) (i : ℕ) (hi : i < n) where
-  pub told-awaited : (st : Stage) (r : List ℕ) → Told n B i st r → awaited n st r ≡ true
+  pub told-awaited : (st : Stage) (r : List ℕ) → RepliedBy n B i st r → awaited n st r ≡ true
   told-awaited (Columns j) r t = ap (is_column n j) t ∙ column-awaited n j (λ a. B a j)
   told-awaited (Status s) r t = ap (is_status n) t ∙ status-awaited n i hi
   told-awaited Full r t = refl
@@ -143,7 +144,7 @@ module _ (n : ℕ) (B : Mat) (i : ℕ) (hi : i < n) where
   told-awaited (Combination k) r t = refl
   told-awaited Done r t = refl
 
-  pub told-stage : (st : Stage) (r : List ℕ) → Told n B i st r → after_reply n (next_row r) st ≡ after_reply n i st
+  pub told-stage : (st : Stage) (r : List ℕ) → RepliedBy n B i st r → after_reply n (next_row r) st ≡ after_reply n i st
   told-stage (Columns j) r t = refl
   told-stage (Status s) r t = ap (after_status s) (ap next_row t ∙ (let e : i % 256 + 256 * (i / 256) ≡ i = omega arith in e))
   told-stage Full r t = refl
@@ -151,9 +152,9 @@ module _ (n : ℕ) (B : Mat) (i : ℕ) (hi : i < n) where
   told-stage (Combination k) r t = refl
   told-stage Done r t = refl
 
-  pub told-knows : (st : Stage) (r xs ys : List ℕ) → Els bits B → length xs ≡ n * n → within n st ≡ true → Told n B i st r → Knows n B st xs ys → Knows n B (after_reply n i st) (kept n st r xs) ys
+  pub told-knows : (st : Stage) (r xs ys : List ℕ) → Els bits B → length xs ≡ n * n → within n st ≡ true → RepliedBy n B i st r → Knows n B st xs ys → Knows n B (after_reply n i st) (kept n st r xs) ys
   told-knows (Columns j) r xs ys els l w t h =
-      subst (λ q. Knows n B (after_column n j) (with_column n j n (bits_of (drop 3 q)) xs) ys) (sym t)
+      subst (λ q. Knows n B (after_column n j) (with_cells n j n (bits_of (drop 3 q)) xs) ys) (sym t)
       (column-after n B j (eqb (j + 1) n) _ ys refl (column-heard n j B xs els l (ltb-true j n w) h))
   told-knows (Status s) r xs ys els l w t h = status-after n B s i xs ys h
   told-knows Full r xs ys els l w t h = h
@@ -163,7 +164,7 @@ module _ (n : ℕ) (B : Mat) (i : ℕ) (hi : i < n) where
 
 -- a hearing of such a reply
 pub learns : (n : ℕ) (B : Mat) (i : ℕ) (st st' : Stage) (reply xs xs' ys : List ℕ) (r : Result (Unit {0}) HostFault) (n' : ℕ) → Els bits B → length xs ≡ n * n → within n st ≡ true → i < n
-    → Told n B i st reply → Knows n B st xs ys → Heard n st xs reply r n' st' xs' → Learns n B i st r st' xs' ys
+    → RepliedBy n B i st reply → Knows n B st xs ys → Heard n st xs reply r n' st' xs' → Learns n B i st r st' xs' ys
 learns n B i st st' reply xs xs' ys r n' els l w hi t h d =
     let q : eqb (length xs) (n * n) ≡ true = eq-eqb _ _ l in
     let ok : awaited n st reply ≡ true = told-awaited n B i hi st reply t in

@@ -1,12 +1,12 @@
 -- What a host writes, and the replies that it awaits. Assumes nothing.
--- bit_table                       the matrix of bits in a table
+-- bit_table                        the matrix of bits in a table
 -- column_frame, status_frame, ..   the frames
--- laid                            a frame in its memory
--- index, is_column, next_row, is_status   the replies that are awaited
--- with_column                     a table with another column
-use Rattle.std.specs.Prelude.{ℕ, zero, suc, ◌+◌, ◌*◌, ◌/◌, ◌%◌, Bool, ◌&&◌, List, [], ◌∷◌, ◌++◌, length, drop, ◌==◌, nat_lt, slice_index, slice_set}
+-- is_column, next_row, is_status   the replies that are awaited
+-- with_cells                       a table with another column
+use Rattle.std.specs.Prelude.{ℕ, zero, suc, ◌+◌, ◌*◌, ◌/◌, ◌%◌, Bool, ◌&&◌, List, [], ◌∷◌, length, ◌==◌, nat_lt, slice_index, slice_set}
 use Rattle.matrix.specs.Matrix.{Mat}
 use Rattle.bits.specs.Bits.{bytes_for, pack}
+use Rattle.bits.specs.Bytes.{word_at}
 use Rattle.solver.specs.Cells.{entries}
 use Rattle.host.specs.declared.stage.Stage.{Stage}
 use Rattle.host.specs.declared.stage.Stage.TheVariants.{Columns, Full, Status, Rows, Combination, Done}
@@ -31,10 +31,6 @@ row_frame n i s = 18 ∷ i % 256 ∷ i / 256 ∷ pack n s
 abbrev pub combination_frame : ℕ → (ℕ → ℕ) → List ℕ
 combination_frame n v = 19 ∷ pack n v
 
--- the frame stands first in its memory, the rest is unchanged
-abbrev pub laid : List ℕ → List ℕ → List ℕ
-laid f memory = f ++ drop (length f) memory
-
 -- the frame of a stage, with the second table ys
 abbrev pub frame_of : ℕ → Stage → List ℕ → List ℕ
 frame_of n (Columns j) ys = column_frame j
@@ -44,23 +40,19 @@ frame_of n (Rows i) ys = row_frame n i (bit_table n ys i)
 frame_of n (Combination r) ys = combination_frame n (bit_table n ys r)
 frame_of n Done ys = []
 
--- the index in the reply to a column
-abbrev pub index : List ℕ → ℕ
-index r = slice_index r 1 + 256 * slice_index r 2
-
 -- 21, the index asked, and a column of n bits
 abbrev pub is_column : ℕ → ℕ → List ℕ → Bool
-is_column n j r = length r == bytes_for n + 3 && (slice_index r 0 == 33 && index r == j)
+is_column n j r = length r == bytes_for n + 3 && (slice_index r 0 == 33 && word_at 1 r == j)
 
 -- the next row in the reply to the status
 abbrev pub next_row : List ℕ → ℕ
-next_row r = slice_index r 2 + 256 * slice_index r 3
+next_row = word_at 2
 
 -- 24, phase 0, and a next row below n
 abbrev pub is_status : ℕ → List ℕ → Bool
 is_status n r = length r == 4 && (slice_index r 0 == 36 && (slice_index r 1 == 0 && nat_lt (next_row r) n))
 
 -- the cells of a table of n columns, with the first k bits of v in column j
-unfoldable pub with_column : ℕ → ℕ → ℕ → (ℕ → ℕ) → List ℕ → List ℕ
-with_column n j zero v xs = xs
-with_column n j (suc k) v xs = slice_set (with_column n j k v xs) (k * n + j) (v k)
+unfoldable pub with_cells : ℕ → ℕ → ℕ → (ℕ → ℕ) → List ℕ → List ℕ
+with_cells n j zero v xs = xs
+with_cells n j (suc k) v xs = slice_set (with_cells n j k v xs) (k * n + j) (v k)

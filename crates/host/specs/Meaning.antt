@@ -1,9 +1,9 @@
 -- What a host's tables and frames mean for the matrix B of a card. Assumes nothing.
--- Knows              what the tables hold of B
--- UnitRow, Vanishes  what a row and a combination are to B
--- Sends, Speaks      the frame of a stage; speaking
--- Told               the reply of a card with B
--- Learns             hearing such a reply
+-- Knows               what the tables hold of B
+-- UnitRow, Vanishes   what a row and a combination are to B
+-- Sends, Speaks       the frame of a stage; speaking
+-- RepliedBy           the reply of a card with B
+-- Learns              hearing such a reply
 use Rattle.std.specs.Prelude.{◌≡◌, ℕ, ◌/◌, ◌%◌, ◌<◌, ◌≢◌, List, [], ◌∷◌, length, Option, Ok, Result}
 use Rattle.galois.specs.Bit.{bits}
 use Rattle.matrix.specs.Matrix.{Mat, Same, times, delta, apply_row, Dependent}
@@ -51,10 +51,10 @@ pub record Speaks (n : ℕ) (B : Mat) (st : Stage) (r : Result (Option ℕ) Host
   pub sends : Sends n B st (written r fr')
 
 -- r is the reply of a card with B in phase 0 that has taken i rows; any, where none is looked at
-abbrev pub Told : ℕ → Mat → ℕ → Stage → List ℕ → Type 0
-Told n B i (Columns j) r = r ≡ 33 ∷ j % 256 ∷ j / 256 ∷ pack n (λ a. B a j)
-Told n B i (Status s) r = r ≡ 36 ∷ 0 ∷ i % 256 ∷ i / 256 ∷ []
-Told n B i st r = Unit {0}
+abbrev pub RepliedBy : ℕ → Mat → ℕ → Stage → List ℕ → Type 0
+RepliedBy n B i (Columns j) r = r ≡ 33 ∷ j % 256 ∷ j / 256 ∷ pack n (λ a. B a j)
+RepliedBy n B i (Status s) r = r ≡ 36 ∷ 0 ∷ i % 256 ∷ i / 256 ∷ []
+RepliedBy n B i st r = Unit {0}
 
 -- such a reply is accepted, and what the tables hold of B stays known
 pub record Learns (n : ℕ) (B : Mat) (i : ℕ) (st : Stage) (r : Result (Unit {0}) HostFault) (st' : Stage) (xs' ys : List ℕ) : Type 0 where

@@ -7,12 +7,14 @@ ghost use Rattle.std.specs.Prelude.{◌≡◌, ℕ, ◌+◌, ◌*◌, ◌%◌, �
 ghost use Rattle.galois.specs.Bit.{bits};
 ghost use Rattle.matrix.specs.Matrix.{Mat, Els};
 ghost use Rattle.bits.specs.Bits.{bytes_for, bits_of, pack};
+ghost use Rattle.bits.specs.Bytes.{laid};
 ghost use Rattle.params.specs.Sets.{named};
 ghost use Rattle.solver.specs.Answers.{Solves};
-ghost use Rattle.host.specs.Frames.{bit_table, laid, column_frame, row_frame, combination_frame, is_column, is_status, next_row, with_column};
+ghost use Rattle.solver.specs.Cells.{Clean};
+ghost use Rattle.host.specs.Frames.{bit_table, column_frame, row_frame, combination_frame, is_column, is_status, next_row, with_cells};
 ghost use Rattle.host.specs.Stages.{within, after_column, after_row, after_status};
 ghost use Rattle.host.specs.Steps.{Spoken, Heard};
-ghost use Rattle.host.specs.Meaning.{Knows, Speaks, Told, Learns};
+ghost use Rattle.host.specs.Meaning.{Knows, Speaks, RepliedBy, Learns};
 ghost use Rattle.host.specs.Faults.{told_host};
 ghost use Rattle.host.specs.declared.fault.HostFault.TheVariants.{Set, Reply};
 ghost use Rattle.host.specs.declared.stage.Stage.TheVariants.{Status, Done};
@@ -147,7 +149,7 @@ fn column_in(n: usize, j: usize, reply: &[u8]) -> Option<&[u8]>
 }
 
 // The next row in the reply to a status frame, where it is one awaited.
-fn row_in(n: usize, reply: &[u8]) -> Option<usize>
+fn next_row_in(n: usize, reply: &[u8]) -> Option<usize>
     ensures { result ≡ cond (is_status n reply.now) (Some (next_row reply.now)) None }
 {
     match reply {
@@ -160,7 +162,7 @@ fn row_in(n: usize, reply: &[u8]) -> Option<usize>
 fn keep_column(n: usize, j: usize, column: &[u8], first: &mut [u8])
     requires table { length first.old ≡ n * n }
     requires within { (j < n) × (n ≤ 1664) }
-    ensures { first.new ≡ with_column n j n (bits_of column.now) first.old }
+    ensures { first.new ≡ with_cells n j n (bits_of column.now) first.old }
 {
     // By number: after chunks_exact_mut(n) a proof knows nothing of what was written.
     for i in 0..n {
@@ -172,7 +174,8 @@ fn keep_column(n: usize, j: usize, column: &[u8], first: &mut [u8])
 fn solve_bits(first: &mut [u8], second: &mut [u8], n: usize) -> Solved
     requires tables { (length first.old ≡ n * n) × (length second.old ≡ n * n) }
     requires small { (0 < n) × (n ≤ 1664) }
-    ensures { Solves bits n (bit_table n first.old) (bit_table n second.new) result }
+    ensures solves { Solves bits n (bit_table n first.old) (bit_table n second.new) result }
+    ensures clean { Clean 1 (λ x. x) second.new }
 {
     let mut a = Table::<Bit>::new(first, n);
     let mut b = Table::<Bit>::new(second, n);
@@ -313,7 +316,7 @@ impl Host {
     // that is not awaited there is no more to say.
     pub fn hear(&mut self, first: &mut [u8], reply: &[u8]) -> Result<(), HostFault>
         ensures does { Heard self.old.size self.old.stage first.old reply.now result self.new.size self.new.stage first.new }
-        ensures means { (B : Mat) (i : ℕ) (ys : List ℕ) → Els bits B → length first.old ≡ self.old.size * self.old.size → i < self.old.size → Told self.old.size B i self.old.stage reply.now → Knows self.old.size B self.old.stage first.old ys → Learns self.old.size B i self.old.stage result self.new.stage first.new ys }
+        ensures means { (B : Mat) (i : ℕ) (ys : List ℕ) → Els bits B → length first.old ≡ self.old.size * self.old.size → i < self.old.size → RepliedBy self.old.size B i self.old.stage reply.now → Knows self.old.size B self.old.stage first.old ys → Learns self.old.size B i self.old.stage result self.new.stage first.new ys }
     {
         self.listen(first, reply)
     }
@@ -336,7 +339,7 @@ impl Host {
                 Ok(())
             }
             Stage::Status(solved) => {
-                let Some(next) = row_in(n, reply) else {
+                let Some(next) = next_row_in(n, reply) else {
                     return self.refuse();
                 };
                 self.stage = after_status(solved, next);

@@ -1,18 +1,195 @@
-// Loads keys into the key slot, whole and damaged ones, fills sinks and reads them back, and tells
-// what came, one line to a case.
+// Loads keys into the key slot, whole and damaged ones, and tells what came, one line to a case.
 #![tactic(auto)]
 
-mod practice;
-mod published;
-mod sinks;
-mod tell;
+mod cases;
 
+use block::SlotKey;
+use cases::{CASES, Case, KEY12, KEY20, KEYS, Published};
 use goppa::slot::KeySlot;
+use key::Key;
+use std::alloc::{AllocError, Global};
+use std::{fs, io};
+use words::{Hex, Words};
+
+// Loads a key, and tells the refusal, or ok.
+fn load(
+    rt: &HostRuntime,
+    slot: &mut KeySlot,
+    what: &str,
+    name: &str,
+    key: &[u8],
+) -> io::Result<()> {
+    match slot.load(name, key) {
+        Ok(()) => println!(rt; "  {what}: ok"),
+        Err(fault) => println!(rt; "  {what}: {}", Words::from(fault)),
+    }
+}
+
+fn try_case(rt: &HostRuntime, slot: &mut KeySlot, case: Case) -> io::Result<()> {
+    let (what, name, length, changes) = case;
+    let mut bytes = KEY12;
+    for (at, value) in changes {
+        if let Some(byte) = bytes.get_mut(*at) {
+            *byte = *value;
+        }
+    }
+    // wrong lengths are the cases, so a case says how many bytes are loaded
+    match bytes.get(..length) {
+        Some(key) => load(rt, slot, what, name, key),
+        None => Ok(()),
+    }
+}
+
+// Column j, or why there is none; as in walkthrough, which is read alone.
+fn show_column(rt: &HostRuntime, key: &SlotKey<'_>, j: usize, out: &mut [u8]) -> io::Result<()> {
+    match key.column(j, out) {
+        Ok(()) => {
+            let column = Hex { bytes: out };
+            println!(rt; "    column {j}: ok {column}")
+        }
+        Err(fault) => {
+            let length = out.len();
+            println!(rt;
+                "    column {j} into {length} bytes: {}",
+                Words::from(fault)
+            )
+        }
+    }
+}
+
+// All columns of the slot's check matrix, then one too many, then results of wrong lengths.
+fn show_columns(rt: &HostRuntime, slot: &KeySlot) -> anyhow::Result<()> {
+    let key = SlotKey { slot };
+    let (n, width) = (slot.set.n, slot.set.bytes());
+    let mut out = vec![in rt.alloc(); 0u8; width]?;
+    println!(rt; "  the columns of H:")?;
+    for j in 0..=n {
+        show_column(rt, &key, j, &mut out)?;
+    }
+    for length in [0, 3] {
+        let mut wrong = vec![in rt.alloc(); 0u8; length]?;
+        show_column(rt, &key, n, &mut wrong)?;
+    }
+    Ok(())
+}
+
+// The practice sets: every refusal of loading, and the columns of the check matrix.
+fn load_practice(rt: &HostRuntime, slot: &mut KeySlot) -> anyhow::Result<()> {
+    println!(rt; "practice12")?;
+    for case in CASES {
+        try_case(rt, slot, case)?;
+    }
+    println!(rt; "  the slot still holds the 28 bytes")?;
+    show_columns(rt, slot)?;
+    println!(rt; "practice20")?;
+    load(rt, slot, "46 bytes", "practice20", &KEY20)?;
+    show_columns(rt, slot)?;
+    load(rt, slot, "45 bytes", "practice20", &KEY20[..45])?;
+    load(
+        rt,
+        slot,
+        "the same bytes as practice12",
+        "practice12",
+        &KEY20,
+    )?;
+    println!(rt; "  the slot still holds the 46 bytes")?;
+    show_columns(rt, slot)
+}
+
+// The entries of a key, two bytes each, the low one first.
+fn entries_of(heap: Global, key: &[u8]) -> Result<Vec<u16>, AllocError> {
+    let (pairs, _) = key.as_chunks::<2>();
+    pairs
+        .iter()
+        .map(|pair| u16::from_le_bytes(*pair))
+        .collect(heap)
+}
+
+// A published key by its entries, and the slot that it is loaded into.
+#[derive(Drop)]
+struct Bench<'a> {
+    rt: &'a HostRuntime,
+    slot: &'a mut KeySlot,
+    name: &'static str,
+    entries: Vec<u16>,
+}
+
+impl Bench<'_> {
+    fn load(&mut self, what: &str, entries: &[u16]) -> anyhow::Result<()> {
+        let mut key = Vec::new(self.rt.alloc());
+        for entry in entries {
+            key.extend_from_slice(&entry.to_le_bytes())?;
+        }
+        load(self.rt, self.slot, what, self.name, &key)?;
+        Ok(())
+    }
+
+    // The high byte of an entry set to FF.
+    fn enlarge(&mut self, at: usize) -> anyhow::Result<()> {
+        let mut entries = self.entries.clone()?;
+        if let Some(entry) = entries.get_mut(at) {
+            *entry |= 0xff00;
+        }
+        let what = format!(in self.rt.alloc(); "the high byte of entry {at} is FF")?;
+        self.load(what.as_str(), &entries)
+    }
+
+    // An entry overwritten by the one before.
+    fn repeat(&mut self, at: usize) -> anyhow::Result<()> {
+        let mut entries = self.entries.clone()?;
+        let before = at.saturating_sub(1);
+        if at < entries.len() {
+            entries[at] = entries[before];
+        }
+        let what = format!(in self.rt.alloc(); "entry {at} is entry {before}")?;
+        self.load(what.as_str(), &entries)
+    }
+
+    // All coefficients 0: g = x^t, with the one root 0.
+    fn power(&mut self, t: usize) -> anyhow::Result<()> {
+        let heap = self.rt.alloc();
+        let mut entries = self.entries.clone()?;
+        let coefficients = t.min(entries.len());
+        entries[..coefficients].fill(0);
+        let zero = entries
+            .iter()
+            .enumerate()
+            .skip(t)
+            .find(|(_, entry)| **entry == 0);
+        let what = match zero {
+            Some((at, _)) => format!(in heap; "g = x^{t}, entry {at} is 0")?,
+            None => format!(in heap; "g = x^{t}, no support entry is 0")?,
+        };
+        self.load(what.as_str(), &entries)
+    }
+}
+
+fn try_key(rt: &HostRuntime, slot: &mut KeySlot, one: Published) -> anyhow::Result<()> {
+    let name = one.name;
+    let key = fs::read(rt, format!(in rt.alloc(); "{name}-0.key")?.as_str())?;
+    println!(rt; "{name}")?;
+    load(rt, slot, "whole", name, &key)?;
+    if let Some((_, less)) = key.split_last() {
+        load(rt, slot, "one byte less", name, less)?;
+    }
+    let entries = entries_of(rt.alloc(), &key)?;
+    let mut bench = Bench {
+        rt,
+        slot,
+        name,
+        entries,
+    };
+    bench.enlarge(one.large)?;
+    bench.repeat(one.copied)?;
+    load(rt, bench.slot, "whole again", name, &key)?;
+    bench.power(one.t)
+}
 
 fn main(rt: HostRuntime) -> anyhow::Result<()> {
     let mut slot = KeySlot::new();
-    practice::run(&rt, &mut slot)?;
-    published::run(&rt, &mut slot)?;
-    sinks::run(&rt)?;
+    load_practice(&rt, &mut slot)?;
+    for one in KEYS {
+        try_key(&rt, &mut slot, one)?;
+    }
     Ok(())
 }

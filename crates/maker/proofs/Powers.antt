@@ -4,10 +4,9 @@ use Rattle.std.proofs.lemmas.Bool.{cases_eq}
 use Rattle.std.proofs.lemmas.List.{get_or-set_same, get_or-set_other}
 use Rattle.galois.specs.Arith.{Arith}
 use Rattle.galois.specs.Gf.{times}
-use Rattle.matrix.specs.Matrix.{Mat}
+use Rattle.matrix.specs.Matrix.{Mat, Elements}
 use Rattle.matrix.proofs.Sums.{delta-on, delta-off}
 use Rattle.quotient.specs.Quotient.{product, power, Alike}
-use Rattle.quotient.specs.Roots.{Elements}
 use Rattle.quotient.proofs.Ring.{product-alike}
 use Rattle.quotient.proofs.Roots.{power-element, power-more}
 use Rattle.solver.specs.Cells.{entry, entries}

@@ -3,9 +3,8 @@ use Rattle.std.proofs.Common.{◌≡◌, ℕ, ◌+◌, ◌<◌, sym, refl, ap, a
 use lib.Bits.{bit_xor}
 use Rattle.galois.specs.Arith.{Arith}
 use Rattle.galois.specs.Gf.{times}
-use Rattle.matrix.specs.Matrix.{sum}
+use Rattle.matrix.specs.Matrix.{sum, Elements}
 use Rattle.quotient.specs.Quotient.{times_y, product, Alike}
-use Rattle.quotient.specs.Roots.{Elements}
 use Rattle.quotient.proofs.Steps.{climbed, times-y-alike, product-climbs}
 use Rattle.maker.proofs.Field.{IsField, one-product}
 use Rattle.maker.proofs.Sums.{sum-none, sum-more}

@@ -1,15 +1,15 @@
 -- What making a Goppa polynomial gives. Assumes nothing.
--- low_of         F(y) of a set
--- Lent, lent     the lengths of the lent memories
--- unfit          one of them is wrong
--- large_at       the first entry that is no element
--- checked        what the checks under a set refuse by
--- refused_by     a refusal as a result
--- Held, held     what result and tables hold
--- Given          a made polynomial, or dependent powers
--- MadeBy, MadeAs what a call gives and leaves, after the checks, after the set
--- Made           one call
--- told_making    how the refusals are told
+-- low_of              F(y) of a set
+-- Lent, lent          the lengths of the lent memories
+-- unfit               one of them is wrong
+-- large_at            the first entry that is no element
+-- checked             what the checks under a set refuse by
+-- refused_by          a refusal as a result, for private functions
+-- Held, held          what result and tables hold
+-- Given               a made polynomial, or dependent powers
+-- MadeUnder, MadeAs   what a call gives and leaves, after the checks, after the set
+-- Made                one call
+-- told_maker          how the refusals are told
 use Rattle.std.specs.Prelude.{◌≡◌, ℕ, ◌*◌, Bool, cond, not, ◌||◌, List, [], ◌∷◌, Option, Some, None, Ok, Err, Result, ◌==◌, bit_xor}
 use Rattle.galois.specs.Gf.{times}
 use Rattle.matrix.specs.Search.{found}
@@ -21,7 +21,7 @@ use Rattle.params.specs.declared.numbers.Numbers.{Numbers}
 use Rattle.params.specs.declared.numbers.Term.{Term}
 use Rattle.params.specs.declared.set.SetFault.{SetFault}
 use Rattle.goppa.specs.Loading.{entry_in, large}
-use Rattle.quotient.specs.Roots.{TheRoot, Dependent}
+use Rattle.quotient.specs.Roots.{TheMonic, DependentPowers}
 use Rattle.maker.specs.declared.fault.MakerFault.{MakerFault}
 use Rattle.maker.specs.declared.fault.MakerFault.TheVariants.{Set, Length, Large, Dependent as Depends}
 
@@ -71,17 +71,17 @@ held g p i = record { goppa = g; powers = p; inverse = i }
 
 -- past the checks: g is zero at the entries' polynomial modulo F(y), or its powers are dependent
 abbrev pub Given : Numbers → List ℕ → List ℕ → List ℕ → Result (Unit {0}) MakerFault → Type 0
-Given s bs old new (Ok x) = TheRoot (times s.m s.f) s.m s.t (low_of s.terms) (entry_in bs) (entry_in new)
-Given s bs old new (Err e) = (e ≡ Depends) × (new ≡ old) × Dependent (times s.m s.f) s.m s.t (low_of s.terms) (entry_in bs)
+Given s bs old new (Ok x) = TheMonic (times s.m s.f) s.m s.t (low_of s.terms) (entry_in bs) (entry_in new)
+Given s bs old new (Err e) = (e ≡ Depends) × (new ≡ old) × DependentPowers (times s.m s.f) s.m s.t (low_of s.terms) (entry_in bs)
 
 -- a refusal of the checks leaves all memory as it was
-abbrev pub MadeBy : {X : Type 0} → Numbers → List ℕ → Held X → Held X → Result (Unit {0}) MakerFault → Option MakerFault → Type 0
-MadeBy s bs old new r (Some e) = (r ≡ Err e) × (new ≡ old)
-MadeBy s bs old new r None = Given s bs old.goppa new.goppa r
+abbrev pub MadeUnder : {X : Type 0} → Numbers → List ℕ → Held X → Held X → Result (Unit {0}) MakerFault → Option MakerFault → Type 0
+MadeUnder s bs old new r (Some e) = (r ≡ Err e) × (new ≡ old)
+MadeUnder s bs old new r None = Given s bs old.goppa new.goppa r
 
 -- the same from the set on
 abbrev pub MadeAs : {X : Type 0} → List ℕ → Lent → Held X → Held X → Result (Unit {0}) MakerFault → Result Numbers SetFault → Type 0
-MadeAs bs m old new r (Ok s) = MadeBy s bs old new r (checked s bs m)
+MadeAs bs m old new r (Ok s) = MadeUnder s bs old new r (checked s bs m)
 MadeAs bs m old new r (Err e) = (r ≡ Err (Set e)) × (new ≡ old)
 
 -- making under a name from the entries bs
@@ -89,8 +89,8 @@ abbrev pub Made : {X : Type 0} → List ℕ → List ℕ → Lent → Held X →
 Made name bs m old new r = MadeAs bs m old new r (named name)
 
 -- how the refusals are told
-abbrev pub told_making : MakerFault → Refusal
-told_making (Set e) = told_sets e
-told_making Length = refused Maker 30 0
-told_making (Large k) = refused Maker 31 k
-told_making Depends = refused Maker 32 0
+abbrev pub told_maker : MakerFault → Refusal
+told_maker (Set e) = told_sets e
+told_maker Length = refused Maker 30 0
+told_maker (Large k) = refused Maker 31 k
+told_maker Depends = refused Maker 32 0

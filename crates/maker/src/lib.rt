@@ -4,17 +4,16 @@
 // end; the lent tables are the caller's to clear.
 #![tactic(auto)]
 
-ghost use Rattle.std.specs.Prelude.{◌≡◌, ℕ, ◌+◌, ◌*◌, ◌%◌, ◌^◌, ◌<◌, ◌≤◌, length, bit_xor, slice_index};
+ghost use Rattle.std.specs.Prelude.{◌≡◌, ℕ, ◌+◌, ◌*◌, ◌%◌, ◌^◌, ◌<◌, length, bit_xor, slice_index};
 ghost use Rattle.galois.specs.Gf.{times};
-ghost use Rattle.matrix.specs.Matrix.{Same, sum};
+ghost use Rattle.matrix.specs.Matrix.{Same, sum, Elements};
 ghost use Rattle.matrix.specs.Search.{found};
 ghost use Rattle.params.specs.Sets.{numbers};
 ghost use Rattle.goppa.specs.Loading.{entry_in, large};
 ghost use Rattle.quotient.specs.Quotient.{Alike, times_y, product, power as power_of};
-ghost use Rattle.quotient.specs.Roots.{Elements};
 ghost use Rattle.solver.specs.Cells.{entries, entry};
 ghost use Rattle.solver.specs.Answers.{Answer};
-ghost use Rattle.maker.specs.Maker.{low_of, lent, held, refused_by, checked, Given, Made, told_making};
+ghost use Rattle.maker.specs.Maker.{low_of, lent, held, refused_by, checked, Given, Made, told_maker};
 ghost use Rattle.maker.specs.declared.fault.MakerFault.TheVariants.{Set};
 
 pub mod fault;
@@ -42,7 +41,7 @@ impl From<SetFault> for MakerFault {
 }
 
 impl Fault for MakerFault {
-    ghost told = { told_making };
+    ghost told = { told_maker };
 
     fn refusal(self) -> Refusal {
         match self {

@@ -3,8 +3,8 @@ use Rattle.std.proofs.Common.{◌≡◌, ℕ, zero, suc, ◌+◌, ◌-◌, ◌^�
 use lib.Bits.{bit_xor, xor_assoc, xor_self, xor_zero_l, xor_zero_r, xor_lt}
 use Rattle.std.proofs.lemmas.Bool.{cases_lt, cond-true, cond-false, lt-ltb, le-ltb}
 use Rattle.galois.specs.Arith.{Arith}
-use Rattle.matrix.specs.Matrix.{Mat, sum, delta, times, Els, Dependent, apply, apply_row}
-use Rattle.matrix.specs.Words.{Passes, Word, from_column, unit_and, Systematic, TheOnly, LeftInverse, Singular, SameBlinded, Inverses, Algebra}
+use Rattle.matrix.specs.Matrix.{Mat, sum, delta, times, Elements, Els, Dependent, apply, apply_row}
+use Rattle.matrix.specs.Words.{Passes, from_column, unit_and, Systematic, TheOnly, LeftInverse, Singular, SameBlinded, Inverses, Algebra}
 use Rattle.matrix.proofs.Sums.{sum-cong, sum-zero, row-assoc, mul-zero, times-assoc, times-left, times-right, delta-times, times-delta, sum-mul, mul-sum, sum-swap}
 use Rattle.matrix.proofs.Rows.{delta-lt}
 use Rattle.matrix.proofs.Inverse.{decided, inverses-agree, left-is-right, no-dependence}
@@ -65,7 +65,7 @@ module _ (F : Arith) where
   unfolding probe
   probe-right r T j b = let q : r + b - r ≡ b = omega arith in cond-false (ltb (r + b) r) _ _ (le-ltb (r + b) r (omega arith)) ∙ ap (λ x. delta x j) q
 
-  probe-word : (r k : ℕ) (T : Mat) (j : ℕ) → ((i : ℕ) → i < r → T i j < 2 ^ F.width) → Word F (r + k) (probe r T j)
+  probe-word : (r k : ℕ) (T : Mat) (j : ℕ) → ((i : ℕ) → i < r → T i j < 2 ^ F.width) → Elements F.width (r + k) (probe r T j)
   probe-word r k T j h a l = elim (cases_lt a r) [
     | inl m ↦ subst (λ x. x < 2 ^ F.width) (sym (probe-left r T j a m)) (h a m)
     | inr m ↦ let q : r + (a - r) ≡ a = omega arith in subst (λ x. x < 2 ^ F.width) (sym (probe-right r T j (a - r)) ∙ ap (probe r T j) q) (delta-lt F 0 (a - r) j)
@@ -124,7 +124,7 @@ module _ (F : Arith) where
           ∙ sum-zero r _ (λ l hl. ap (F.mul (S i l)) (p l hl) ∙ mul-zero F (S i l));
     }
 
-  pub dependent-singular : (n : ℕ) (M : Mat) (v : ℕ → ℕ) → Els F M → Word F n v → Dependent F n M v → Singular F n M
+  pub dependent-singular : (n : ℕ) (M : Mat) (v : ℕ → ℕ) → Els F M → Elements F.width n v → Dependent F n M v → Singular F n M
   dependent-singular n M v hm hv d =
       let u : ℕ → ℕ = λ a. cond (ltb a n) (v a) 0 in
       let at-u : (a : ℕ) → a < n → u a ≡ v a = λ a h. cond-true (ltb a n) (v a) 0 (lt-ltb a n h) in

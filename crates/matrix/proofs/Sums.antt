@@ -1,15 +1,10 @@
 -- Laws of sums and of products of matrices. Assumes nothing.
 use Rattle.std.proofs.Common.{◌≡◌, ℕ, zero, suc, ◌^◌, ◌<◌, eqb, ◌≢◌, sym, refl, ap, ◌∙◌, ap₂, inl, inr, arith}
-use lib.Bits.{bit_xor, xor_assoc, xor_comm, xor_self, xor_zero_l, xor_zero_r}
+use lib.Bits.{bit_xor, xor_self, xor_zero_l, xor_zero_r}
 use Rattle.std.proofs.lemmas.Bool.{cases_eq, cond-true, cond-false, eq-eqb, ne_eqb}
 use Rattle.galois.specs.Arith.{Arith}
+use Rattle.galois.proofs.Linear.{xor4}
 use Rattle.matrix.specs.Matrix.{Mat, sum, delta, times}
-
-pub xor-four : (a b c d : ℕ) → bit_xor (bit_xor a b) (bit_xor c d) ≡ bit_xor (bit_xor a c) (bit_xor b d)
-xor-four a b c d =
-    xor_assoc a b (bit_xor c d)
-    ∙ ap (bit_xor a) (sym (xor_assoc b c d) ∙ ap (λ x. bit_xor x d) (xor_comm b c) ∙ xor_assoc c b d)
-    ∙ sym (xor_assoc a c (bit_xor b d))
 
 pub sum-cong : (n : ℕ) (f g : ℕ → ℕ) → ((k : ℕ) → k < n → f k ≡ g k) → sum n f ≡ sum n g
 unfolding sum
@@ -24,7 +19,7 @@ sum-zero (suc n) f h = ap₂ bit_xor (sum-zero n f (λ k l. h k (omega arith))) 
 pub sum-xor : (n : ℕ) (f g : ℕ → ℕ) → sum n (λ k. bit_xor (f k) (g k)) ≡ bit_xor (sum n f) (sum n g)
 unfolding sum
 sum-xor zero f g = refl
-sum-xor (suc n) f g = ap (λ x. bit_xor x (bit_xor (f n) (g n))) (sum-xor n f g) ∙ xor-four (sum n f) (sum n g) (f n) (g n)
+sum-xor (suc n) f g = ap (λ x. bit_xor x (bit_xor (f n) (g n))) (sum-xor n f g) ∙ xor4 (sum n f) (sum n g) (f n) (g n)
 
 pub sum-swap : (n m : ℕ) (f : ℕ → ℕ → ℕ) → sum n (λ i. sum m (λ j. f i j)) ≡ sum m (λ j. sum n (λ i. f i j))
 unfolding sum

@@ -1,7 +1,8 @@
--- What elimination keeps, over the matrix M that it began with. Assumes nothing.
+-- What elimination keeps, over the matrix M that it began with. What private steps promise; no public contract cites it.
+-- Assumes nothing.
 use Rattle.std.specs.Prelude.{◌≡◌, ℕ, ◌<◌, ◌≤◌, ◌≢◌}
 use Rattle.galois.specs.Arith.{Arith}
-use Rattle.matrix.specs.Matrix.{Mat, delta, times, Same, Dependent}
+use Rattle.matrix.specs.Matrix.{Mat, delta, times, Same}
 
 -- X is Y times M, and Y has an inverse
 pub record Tied (F : Arith) (n : ℕ) (M X Y : Mat) : Type 0 where
@@ -25,9 +26,3 @@ pub record Clearing (F : Arith) (n : ℕ) (M X Y : Mat) (c r i : ℕ) : Type 0 w
   pub zeros : (a j : ℕ) → r ≤ a → a < n → j < c → X a j ≡ 0
   pub units : r ≡ c → (a j : ℕ) → a < n → j < c → X a j ≡ delta a j
   pub done : (a : ℕ) → a < i → a < n → a ≢ r → X a c ≡ 0
-
--- what elimination of M leaves in the second table, with r pivots
-pub record Reduced (F : Arith) (n : ℕ) (M Y : Mat) (r : ℕ) : Type 0 where
-  pub most : r ≤ n
-  pub whole : n ≤ r → Same n (times F n Y M) delta
-  pub short : r < n → Dependent F n M (Y r)

@@ -1,14 +1,11 @@
 -- Words that pass a check matrix, the systematic form, and blinded blocks. Assumes nothing.
 use Rattle.std.specs.Prelude.{◌≡◌, ℕ, ◌+◌, ◌-◌, ◌^◌, ◌<◌, cond, ◌⊎◌, nat_lt}
 use Rattle.galois.specs.Arith.{Arith}
-use Rattle.matrix.specs.Matrix.{Mat, sum, delta, times, Same, Els, Dependent, apply, apply_row}
+use Rattle.matrix.specs.Matrix.{Mat, sum, delta, times, Same, Elements, Els, Dependent, apply, apply_row}
 
 -- the word w, of n elements, passes M, of r rows
 abbrev pub Passes : Arith → ℕ → ℕ → Mat → (ℕ → ℕ) → Type 0
 Passes F r n M w = (i : ℕ) → i < r → apply F n M w i ≡ 0
-
-abbrev pub Word : Arith → ℕ → (ℕ → ℕ) → Type 0
-Word F n w = (j : ℕ) → j < n → w j < 2 ^ F.width
 
 -- the columns of M from r on
 abbrev pub from_column : ℕ → Mat → Mat
@@ -21,8 +18,8 @@ unit_and r T i j = cond (nat_lt j r) (delta i j) (T i (j - r))
 -- the matrix (I|T) with r rows and k columns in T: every word passes it exactly when it passes H
 pub record Systematic (F : Arith) (r k : ℕ) (H T : Mat) : Type 0 where
   pub elements : (i j : ℕ) → i < r → j < k → T i j < 2 ^ F.width
-  pub sound : (w : ℕ → ℕ) → Word F (r + k) w → Passes F r (r + k) (unit_and r T) w → Passes F r (r + k) H w
-  pub complete : (w : ℕ → ℕ) → Word F (r + k) w → Passes F r (r + k) H w → Passes F r (r + k) (unit_and r T) w
+  pub sound : (w : ℕ → ℕ) → Elements F.width (r + k) w → Passes F r (r + k) (unit_and r T) w → Passes F r (r + k) H w
+  pub complete : (w : ℕ → ℕ) → Elements F.width (r + k) w → Passes F r (r + k) H w → Passes F r (r + k) (unit_and r T) w
 
 -- T has P, and every matrix that has P is T in its r rows and k columns
 pub record TheOnly (r k : ℕ) (P : Mat → Type 0) (T : Mat) : Type 0 where
@@ -55,11 +52,15 @@ pub record Inverses (F : Arith) : Type 0 where
   -- there is one at most
   pub unique : (n : ℕ) (M S S' : Mat) → Els F M → LeftInverse F n M S → LeftInverse F n M S' → Same n S S'
   -- there is one, or a nonzero row vector that the matrix sends to zero
-  pub decided : (n : ℕ) (M : Mat) → Els F M → ((S : Mat) × LeftInverse F n M S) ⊎ ((v : ℕ → ℕ) × (Word F n v) × (Dependent F n M v))
+  pub decided : (n : ℕ) (M : Mat) → Els F M → ((S : Mat) × LeftInverse F n M S) ⊎ ((v : ℕ → ℕ) × (Elements F.width n v) × (Dependent F n M v))
 
 -- what the split key generation rests on, over any field, for H of r rows and r + k columns, and blindings R
 pub record Algebra (F : Arith) : Type 0 where
+  -- the public matrix: (I|T) passes what H passes, for this T and no other
   pub systematic : (r k : ℕ) (H S : Mat) → Els F H → LeftInverse F r H S → TheOnly r k (Systematic F r k H) (times F r S (from_column r H))
-  pub singular : (n : ℕ) (M : Mat) (v : ℕ → ℕ) → Els F M → Word F n v → Dependent F n M v → Singular F n M
+  -- a vanishing combination of the rows of M rules out any inverse
+  pub singular : (n : ℕ) (M : Mat) (v : ℕ → ℕ) → Els F M → Elements F.width n v → Dependent F n M v → Singular F n M
+  -- where S undoes R H, S R undoes H
   pub unblinded : (n : ℕ) (R H S : Mat) → LeftInverse F n (times F n R H) S → LeftInverse F n H (times F n S R)
+  -- exactly one blinding of H' gives the product that R gives of H
   pub reblinded : (n : ℕ) (H H' S' R : Mat) → Els F H' → LeftInverse F n H' S' → (R' : Mat) × TheOnly n n (SameBlinded F n R H H') R'

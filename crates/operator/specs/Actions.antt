@@ -1,4 +1,4 @@
--- Operators: what their actions answer and write, what they are made of. Assumes nothing.
+-- Operators: what their actions answer and write, what they are made of; transposed is for a private operator. Assumes nothing.
 use Rattle.std.specs.Prelude.{◌≡◌, ℕ, ◌*◌, ◌<◌, ◌≤◌, true, false, cond, List, length, is_ok, Ok, Err, Result, ◌==◌, nat_le, nat_lt}
 use Rattle.std.proofs.Common.{arith}
 use Rattle.galois.specs.Bit.{bits}

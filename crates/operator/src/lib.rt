@@ -26,6 +26,7 @@ pub trait Operator {
     // N and M
     ghost order: { Self → ℕ };
 
+    // M; an entry counts by its lowest bit
     ghost matrix: { Self → Mat };
 
     ghost bounded: { (x : Self) → (0 < order x) × (order x ≤ 1664) };

@@ -1,8 +1,10 @@
--- The relations between the numbers of a parameter set. Assumes nothing.
+-- The relations between the numbers of a parameter set. Only a private function asks for them; the type of a set shows the
+-- same. Assumes nothing.
 use Rattle.std.specs.Prelude.{◌≡◌, ◌+◌, ◌*◌, ◌/◌, ◌^◌, ◌<◌, ◌≤◌, true, length}
 use Rattle.params.specs.declared.numbers.Numbers.{Numbers}
 use Rattle.params.specs.Known.{known, below}
 
+-- what is asked of a line of the constant table
 pub record Related (s : Numbers) : Type 0 where
   -- the field is one of the four
   pub field : known s.m s.f ≡ true

@@ -1,9 +1,10 @@
 -- The seven parameter sets and their names. Assumes nothing.
--- numbers       the numbers of a set
--- practice12    .. mceliece8192128, the sets
--- named         the set of a name, or the refusal
--- numbers_or     the numbers of what finding a set returns
--- told_sets      how the refusal is told
+-- numbers               the numbers of a set
+-- term, none            a term of F(y); an empty place for one
+-- practice12, ..        the sets
+-- named                 the set of a name, or the refusal
+-- numbers_or            the numbers of what finding a set returns
+-- told_sets             how the refusal is told
 use Rattle.std.specs.Prelude.{ℕ, cond, List, [], ◌∷◌, Ok, Err, codes, Result}
 use Rattle.std.specs.Str.{bytes_eq}
 use Rattle.refusal.specs.Refusals.{refused}

@@ -2,8 +2,7 @@
 use Rattle.std.proofs.Common.{◌≡◌, ℕ, ◌+◌, ◌^◌, ◌<◌, sym, ap, ◌∙◌, ap₂, arith, add_comm, zero-add}
 use lib.Bits.{bit_xor}
 use Rattle.galois.specs.Arith.{Arith}
-use Rattle.matrix.specs.Matrix.{sum, delta, times}
-use Rattle.matrix.specs.Words.{Word}
+use Rattle.matrix.specs.Matrix.{sum, delta, times, Elements}
 use Rattle.matrix.proofs.Sums.{sum-cong, sum-xor, sum-swap, sum-mul, xor-mul, delta-times, times-delta, row-assoc}
 use Rattle.quotient.specs.Quotient.{remainder, product, Alike, Ring}
 use Rattle.quotient.proofs.Steps.{sum-element, remainder-unit, remainder-top, remainder-more}
@@ -52,7 +51,7 @@ module _ (K : Arith) (t : ℕ) (low : ℕ → ℕ) where
       ∙ sym (sum-mul K t (a j) (λ k. K.mul (b k) (remainder K.mul t low (j + k) i))))
 
   -- 1 is neutral
-  pub product-one : (a : ℕ → ℕ) → Word K t a → (i : ℕ) → i < t → product K.mul t low (delta 0) a i ≡ a i
+  pub product-one : (a : ℕ → ℕ) → Elements K.width t a → (i : ℕ) → i < t → product K.mul t low (delta 0) a i ≡ a i
   unfolding times
   product-one a ha i l =
       product-parts (delta 0) a i
@@ -108,13 +107,13 @@ module _ (K : Arith) (t : ℕ) (low : ℕ → ℕ) where
 
   pub ring : 0 < t → Ring K t low
   ring ht = record {
-    elements = λ a b h i l. product-element a b i;
-    cares = λ a a' b b' ha hb i l. product-alike a a' b b' ha hb i;
+    elements = λ a b i l. product-element a b i;
+    below = λ a a' b b' ha hb i l. product-alike a a' b b' ha hb i;
     commutes = λ a b i l. product-commutes a b i;
     associates = product-associates ht;
     distributes = λ a b c i l. product-distributes a b c i;
     one = product-one;
     units = λ k lk i l. remainder-unit K t low k i lk l;
-    monic = remainder-top K t low ht;
+    top = remainder-top K t low ht;
     powers = product-powers ht;
   }

@@ -1,15 +1,14 @@
 -- Powers of a polynomial modulo F(y), and the polynomial of which it is a root, from an inverse of the matrix of its powers. Assumes nothing.
-use Rattle.std.proofs.Common.{◌≡◌, ℕ, zero, suc, ◌+◌, ◌^◌, ◌<◌, sym, ap, ◌∙◌, add-one}
+use Rattle.std.proofs.Common.{◌≡◌, ℕ, zero, suc, ◌+◌, ◌^◌, ◌<◌, ◌⊎◌, sym, ap, ◌∙◌, inl, inr, add-one}
 use lib.Bits.{bit_xor, xor_self}
 use Rattle.galois.specs.Arith.{Arith}
-use Rattle.matrix.specs.Matrix.{Mat, sum, delta, times, Same}
+use Rattle.matrix.specs.Matrix.{Mat, sum, delta, times, Same, Elements}
 use Rattle.matrix.specs.Matrix as matrix
-use Rattle.matrix.specs.Words.{Word}
 use Rattle.matrix.proofs.Sums.{sum-cong, sum-zero, row-assoc, zero-mul, times-delta}
 use Rattle.matrix.proofs.Rows.{delta-lt}
-use Rattle.matrix.proofs.Checks.{xor-equal}
+use Rattle.matrix.proofs.Checks.{xor-equal, inverses}
 use Rattle.quotient.specs.Quotient.{product, power, combined, value}
-use Rattle.quotient.specs.Roots.{Elements, Dependent, TheRoot}
+use Rattle.quotient.specs.Roots.{DependentPowers, TheMonic}
 use Rattle.quotient.proofs.Steps.{sum-element}
 use Rattle.quotient.proofs.Ring.{product-element}
 
@@ -26,7 +25,7 @@ module _ (K : Arith) (t : ℕ) (low b : ℕ → ℕ) where
   power-more n i = ap (λ x. power K.mul t low b x i) (add-one n)
 
   -- a dependence of the rows of powers is one of the powers
-  pub dependent-made : (v : ℕ → ℕ) → Word K t v → matrix.Dependent K t (power K.mul t low b) v → Dependent K.mul K.width t low b
+  pub dependent-made : (v : ℕ → ℕ) → Elements K.width t v → matrix.Dependent K t (power K.mul t low b) v → DependentPowers K.mul K.width t low b
   unfolding combined
   dependent-made v hv d = record { v = v; elements = hv; zero = d.vanish; at = d.at; at_lt = d.at_lt; nonzero = d.nonzero }
 
@@ -52,11 +51,11 @@ module _ (K : Arith) (t : ℕ) (low b : ℕ → ℕ) where
         ∙ times-delta K t (λ _. power K.mul t low b t) 0 i l (power-element t i)
 
     -- its entries are the coefficients of the root's polynomial
-    pub root-made : TheRoot K.mul K.width t low b (λ j. sum t (λ i. K.mul (power K.mul t low b t i) (Y i j)))
+    pub root-made : TheMonic K.mul K.width t low b (λ j. sum t (λ i. K.mul (power K.mul t low b t i) (Y i j)))
     unfolding value
     root-made = record {
       elements = λ j l. sum-element K t _ (λ i. K.mul-lt (power K.mul t low b t i) (Y i j));
-      root = λ i l. ap (bit_xor (power K.mul t low b t i)) (combined-root i l) ∙ xor_self (power K.mul t low b t i);
+      zero = λ i l. ap (bit_xor (power K.mul t low b t i)) (combined-root i l) ∙ xor_self (power K.mul t low b t i);
       only = λ h hh z j l.
           sym (combined-back h hh j l)
           ∙ sum-cong t _ _ (λ i li. ap (λ x. K.mul x (Y i j)) (xor-equal (power K.mul t low b t i) (combined K.mul t low b h i) (z i li)));
@@ -64,3 +63,10 @@ module _ (K : Arith) (t : ℕ) (low b : ℕ → ℕ) where
           sym (combined-back v hv j l)
           ∙ sum-zero t _ (λ i li. ap (λ x. K.mul x (Y i j)) (z i li) ∙ zero-mul K (Y i j));
     }
+
+  -- there is the one monic polynomial that is zero at b, or the powers of b are dependent
+  pub monic-or-dependent : ((g : ℕ → ℕ) × TheMonic K.mul K.width t low b g) ⊎ DependentPowers K.mul K.width t low b
+  monic-or-dependent = elim ((inverses K).decided t (power K.mul t low b) power-element) [
+    | inl s ↦ inl (_, root-made s.0 s.1.undoes ((inverses K).two_sided t _ s.0 power-element s.1))
+    | inr v ↦ inr (dependent-made v.0 v.1 v.2)
+  ]

@@ -3,8 +3,7 @@ use Rattle.std.proofs.Common.{◌≡◌, ℕ, zero, suc, ◌+◌, ◌-◌, ◌^�
 use lib.Bits.{bit_xor, xor_zero_l, xor_zero_r, xor_lt}
 use Rattle.std.proofs.lemmas.Bool.{cases_eq}
 use Rattle.galois.specs.Arith.{Arith}
-use Rattle.matrix.specs.Matrix.{sum, delta, times}
-use Rattle.matrix.specs.Words.{Word}
+use Rattle.matrix.specs.Matrix.{sum, delta, times, Elements}
 use Rattle.matrix.proofs.Sums.{sum-cong, sum-zero, sum-xor, sum-mul, mul-sum, mul-zero, zero-mul, delta-on, delta-off, times-delta}
 use Rattle.matrix.proofs.Rows.{delta-lt}
 use Rattle.quotient.specs.Quotient.{raised, times_y, remainder, product, Alike}
@@ -93,12 +92,12 @@ module _ (K : Arith) (t : ℕ) (low : ℕ → ℕ) where
       ∙ times-y-top m i e l h
 
   -- the remainder of y^t is the rest of F(y)
-  pub remainder-top : 0 < t → Word K t low → Alike t (remainder K.mul t low t) low
+  pub remainder-top : 0 < t → Elements K.width t low → Alike t (remainder K.mul t low t) low
   remainder-top ht h i l = let e : suc (t - 1) ≡ t = omega arith in
       ap (λ k. remainder K.mul t low k i) (sym e) ∙ remainder-after (t - 1) i e l (h i l)
 
   -- a polynomial raised d times is the sum of its coefficients times the remainders, d powers higher
-  pub climbed-is : 0 < t → (b : ℕ → ℕ) → Word K t b → (d i : ℕ) → i < t →
+  pub climbed-is : 0 < t → (b : ℕ → ℕ) → Elements K.width t b → (d i : ℕ) → i < t →
       climbed K.mul t low b d i ≡ sum t (λ k. K.mul (b k) (remainder K.mul t low (k + d) i))
   unfolding climbed remainder times
   climbed-is ht b hb zero i l = sym (
@@ -110,7 +109,7 @@ module _ (K : Arith) (t : ℕ) (low : ℕ → ℕ) where
       ∙ sum-cong t _ _ (λ k lk. ap (λ x. K.mul (b k) (remainder K.mul t low x i)) (sym (add-suc k d)))
 
   -- a product is the sum of the coefficients of one factor times the other one, raised
-  pub product-climbs : 0 < t → (a b : ℕ → ℕ) → Word K t b → (i : ℕ) → i < t →
+  pub product-climbs : 0 < t → (a b : ℕ → ℕ) → Elements K.width t b → (i : ℕ) → i < t →
       product K.mul t low a b i ≡ sum t (λ j. K.mul (a j) (climbed K.mul t low b j i))
   unfolding product
   product-climbs ht a b hb i l = sum-cong t _ _ (λ j lj.

@@ -3,8 +3,7 @@
 -- is 1. Assumes nothing.
 use Rattle.std.specs.Prelude.{◌≡◌, ℕ, zero, suc, ◌+◌, ◌-◌, ◌<◌, bit_xor}
 use Rattle.galois.specs.Arith.{Arith}
-use Rattle.matrix.specs.Matrix.{sum, delta}
-use Rattle.matrix.specs.Words.{Word}
+use Rattle.matrix.specs.Matrix.{sum, delta, Elements}
 
 -- y times p, before y^t is replaced
 abbrev pub raised : (ℕ → ℕ) → ℕ → ℕ
@@ -48,13 +47,13 @@ Alike t p q = (i : ℕ) → i < t → p i ≡ q i
 -- what makes these the polynomials modulo F(y), over the field K
 pub record Ring (K : Arith) (t : ℕ) (low : ℕ → ℕ) : Type 0 where
   -- the product is of elements, and depends on the coefficients below y^t alone
-  pub elements : (a b : ℕ → ℕ) → Word K t low → Word K t (product K.mul t low a b)
-  pub cares : (a a' b b' : ℕ → ℕ) → Alike t a a' → Alike t b b' → Alike t (product K.mul t low a b) (product K.mul t low a' b')
+  pub elements : (a b : ℕ → ℕ) → Elements K.width t (product K.mul t low a b)
+  pub below : (a a' b b' : ℕ → ℕ) → Alike t a a' → Alike t b b' → Alike t (product K.mul t low a b) (product K.mul t low a' b')
   pub commutes : (a b : ℕ → ℕ) → Alike t (product K.mul t low a b) (product K.mul t low b a)
   pub associates : (a b c : ℕ → ℕ) → Alike t (product K.mul t low (product K.mul t low a b) c) (product K.mul t low a (product K.mul t low b c))
   pub distributes : (a b c : ℕ → ℕ) → Alike t (product K.mul t low a (λ i. bit_xor (b i) (c i))) (λ i. bit_xor (product K.mul t low a b i) (product K.mul t low a c i))
-  pub one : (a : ℕ → ℕ) → Word K t a → Alike t (product K.mul t low (delta 0) a) a
+  pub one : (a : ℕ → ℕ) → Elements K.width t a → Alike t (product K.mul t low (delta 0) a) a
   -- y^k is a unit vector below y^t, y^t is the rest of F(y), and powers of y add up
   pub units : (k : ℕ) → k < t → Alike t (remainder K.mul t low k) (delta k)
-  pub monic : Word K t low → Alike t (remainder K.mul t low t) low
+  pub top : Elements K.width t low → Alike t (remainder K.mul t low t) low
   pub powers : (j k : ℕ) → Alike t (product K.mul t low (remainder K.mul t low j) (remainder K.mul t low k)) (remainder K.mul t low (j + k))

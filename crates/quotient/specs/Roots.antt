@@ -1,17 +1,14 @@
 -- Monic polynomials that are zero at a polynomial b modulo F(y). Assumes nothing.
-use Rattle.std.specs.Prelude.{◌≡◌, ℕ, ◌^◌, ◌<◌, ◌≢◌}
+use Rattle.std.specs.Prelude.{◌≡◌, ℕ, ◌<◌, ◌≢◌}
+use Rattle.matrix.specs.Matrix.{Elements}
 use Rattle.quotient.specs.Quotient.{Zero, Alike, combined, value}
-
--- the coefficients of p below y^t are elements, numbers below 2^w
-abbrev pub Elements : ℕ → ℕ → (ℕ → ℕ) → Type 0
-Elements w t p = (i : ℕ) → i < t → p i < 2 ^ w
 
 -- 1, b, .., b^(t - 1) are independent: only the zero combination of them is zero
 abbrev pub Independent : (ℕ → ℕ → ℕ) → ℕ → ℕ → (ℕ → ℕ) → (ℕ → ℕ) → Type 0
 Independent mul w t low b = (v : ℕ → ℕ) → Elements w t v → Zero t (combined mul t low b v) → (j : ℕ) → j < t → v j ≡ 0
 
 -- some combination of them is zero, and not all of it is
-pub record Dependent (mul : ℕ → ℕ → ℕ) (w t : ℕ) (low b : ℕ → ℕ) : Type 0 where
+pub record DependentPowers (mul : ℕ → ℕ → ℕ) (w t : ℕ) (low b : ℕ → ℕ) : Type 0 where
   pub v : ℕ → ℕ
   pub elements : Elements w t v
   pub zero : Zero t (combined mul t low b v)
@@ -20,8 +17,8 @@ pub record Dependent (mul : ℕ → ℕ → ℕ) (w t : ℕ) (low b : ℕ → �
   pub nonzero : v at ≢ 0
 
 -- g is the only monic polynomial of degree t over the field that is zero at b, and 1, b, .. are independent
-pub record TheRoot (mul : ℕ → ℕ → ℕ) (w t : ℕ) (low b g : ℕ → ℕ) : Type 0 where
+pub record TheMonic (mul : ℕ → ℕ → ℕ) (w t : ℕ) (low b g : ℕ → ℕ) : Type 0 where
   pub elements : Elements w t g
-  pub root : Zero t (value mul t low b g)
+  pub zero : Zero t (value mul t low b g)
   pub only : (h : ℕ → ℕ) → Elements w t h → Zero t (value mul t low b h) → Alike t h g
   pub independent : Independent mul w t low b

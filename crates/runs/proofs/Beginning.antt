@@ -16,13 +16,26 @@ use Rattle.host.specs.Meaning.{Knows}
 use Rattle.session.specs.Table.{product}
 use Rattle.runs.specs.declared.calls.Event.{Event}
 use Rattle.runs.specs.Runs.{Card, asked_in}
-use Rattle.runs.specs.Law.{OfSet, Accepted, Lends, Hosted}
-use Rattle.runs.specs.Reached.{Stands, Helping, turns, Waiting}
+use Rattle.runs.specs.Law.{Unknown, OfSet, Accepted, Lends, Hosted}
+use Rattle.runs.specs.Reached.{Stands, Hosting, turns, Waiting}
 
 -- no call yet
 pub hosted-none : (r : Result Numbers SetFault) → Hosted r []
 hosted-none (Ok s) = All-nil (λ e. Lends (bytes_for (s.m * s.t)) (asked_in e))
 hosted-none (Err x) = refl
+
+-- no set of this name, so no call
+pub none-hosted : (r : Result Numbers SetFault) (part : List Event) → Unknown r → Hosted r part → part ≡ []
+none-hosted (Ok s) part un h = absurd un
+none-hosted (Err x) part un h = h
+
+pub not-hosted : {X : Type 0} (o : Option X) (f : X → Result Numbers SetFault) (part : List Event) → MatchOption o (Unit {0}) (λ x. Unknown (f x)) → MatchOption o (part ≡ []) (λ x. Hosted (f x) part) → part ≡ []
+not-hosted (Some x) f part un h = none-hosted (f x) part un h
+not-hosted None f part un h = h
+
+-- a set that was found has a name
+pub a-set : (s : ParameterSet) (r : Result ParameterSet SetFault) (x : Result Numbers SetFault) → r ≡ Ok s → numbers_or r ≡ x → Unknown x → ⊥
+a-set s r x is named un = subst Unknown (sym named ∙ ap numbers_or is) un
 
 -- no set of this name
 pub no-set : (k : Card) (r : Result ParameterSet SetFault) (x : Result Numbers SetFault) (e : SetFault) → r ≡ Err e → numbers_or r ≡ x → OfSet k x → ⊥
@@ -44,7 +57,7 @@ rows-of k s r x is named of = subst (OfSet k) (sym named ∙ ap numbers_or is) o
 pub begins : (k : Card) (s : ParameterSet) (r : Result ParameterSet SetFault) (x : Result Numbers SetFault) (h : Host) (q : Result Host HostFault) (es : List Event) (xs ys fr : List ℕ)
     → r ≡ Ok s → numbers_or r ≡ x → q ≡ Ok h → Begins x q → IfOk q (λ h. (B : Mat) (xs ys : List ℕ) → Knows h.size B h.stage xs ys) → OfSet k x → Waiting k es
     → length xs ≡ s.m * s.t * (s.m * s.t) → length ys ≡ s.m * s.t * (s.m * s.t) → length fr ≡ bytes_for (s.m * s.t) + 3
-    → Helping k es [] h.size h.stage xs ys fr × (turns h.size h.stage ≤ 2 * (s.m * s.t) + 2)
+    → Hosting k es [] h.size h.stage xs ys fr × (turns h.size h.stage ≤ 2 * (s.m * s.t) + 2)
 begins k s r x h q es xs ys fr is named built does means of wait first second frame =
     let name : x ≡ Ok (numbers s) = sym named ∙ ap numbers_or is in
     let b = subst (λ y. Begins (Ok (numbers s)) y) built (subst (λ y. Begins y q) name does) in

@@ -5,7 +5,7 @@ use Rattle.bits.specs.Bits.{bytes_for}
 use Rattle.key.specs.declared.sizes.Sizes.{Sizes}
 use Rattle.session.specs.declared.fault.SessionFault.{SessionFault}
 use Rattle.session.specs.Table.{Line, first, Lent, kind, index, row_in, combination_in, barred, wrong, nonzero, leading, memory_lines, frame_lines, row_lines, column_lines, combination_lines}
-use Rattle.session.specs.Answers.{says, either, unless, granted, column_reply, row_reply, combination_reply, status_reply, reply_of}
+use Rattle.session.specs.Answers.{says, or_refusal, or_none, granted, column_reply, row_reply, combination_reply, status_reply, reply_of}
 
 -- a line that did not refuse, and the lines after it
 passed : (b : Bool) (x : SessionFault) (o : Option SessionFault) → cond b (Some x) o ≡ None → (b ≡ false) × (o ≡ None)
@@ -64,14 +64,14 @@ module _ (set : Sizes) (order : ℕ) (B : List (List ℕ)) (phase taken : ℕ) (
       combination (record { no22 = refl; yes23 = refl; at0 = open-phase 19 (eqb-true _ _ pc) refl bar; some = ltb-true _ _ (not-false _ q.0.0); zero = ltb-false _ _ q.0.1.0 })
   by-kind false false false pb pc l bar e = neither refl refl
 
-  by-frame : (o : Option SessionFault) → m.inverse ≡ n * bytes_for n → first (frame_lines n B phase taken f) ≡ o → Class n B phase taken m f (either o (granted B phase taken f))
+  by-frame : (o : Option SessionFault) → m.inverse ≡ n * bytes_for n → first (frame_lines n B phase taken f) ≡ o → Class n B phase taken m f (or_refusal o (granted B phase taken f))
   by-frame (Some x) l e = neither refl refl
   by-frame None l e =
       let all = frame_lines n B phase taken f in
       let p = passed_before (take 3 all) (drop 3 all) e in
       by-kind (eqb (kind f) 17) (eqb (kind f) 18) (eqb (kind f) 19) refl refl l p.0.1.1.0 p.1
 
-  by-memory : (o : Option SessionFault) → first (memory_lines set set order m) ≡ o → Class n B phase taken m f (unless o (either (first (frame_lines n B phase taken f)) (granted B phase taken f)))
+  by-memory : (o : Option SessionFault) → first (memory_lines set set order m) ≡ o → Class n B phase taken m f (or_none o (or_refusal (first (frame_lines n B phase taken f)) (granted B phase taken f)))
   by-memory (Some x) e = neither refl refl
   by-memory None e =
       let p = passed_before (memory_lines set set order m) [] e in

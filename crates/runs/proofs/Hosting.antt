@@ -15,7 +15,7 @@ use Rattle.key.specs.declared.sizes.Sizes.{Sizes}
 use Rattle.session.specs.declared.fault.SessionFault.{SessionFault}
 use Rattle.session.specs.declared.fault.SessionFault.TheVariants.{Length, Index, Turn, Wrong, Zero, Nonzero}
 use Rattle.session.specs.Table.{first, Lent, blinded, wrong, nonzero, leading, memory_lines, frame_lines, answering_lines}
-use Rattle.session.specs.Answers.{either, unless, granted, reply_of}
+use Rattle.session.specs.Answers.{or_refusal, or_none, granted, reply_of}
 use Rattle.session.proofs.Products.{entry-columns, product_lt}
 use Rattle.session.proofs.Steps.{first-after}
 
@@ -46,7 +46,7 @@ accepted set order B taken m f r fits none is =
     let fit = no-memory set order m fits in
     record {
       none = first-after (memory_lines set set order m) (frame_lines set.rows B 0 taken f) fit ∙ none;
-      reply = (λ i. unless (fit i) (either (none i) (granted B 0 taken f))) ∙ is;
+      reply = (λ i. or_none (fit i) (or_refusal (none i) (granted B 0 taken f))) ∙ is;
     }
 
 pub word-back : (j : ℕ) → j % 256 + 256 * (j / 256) ≡ j

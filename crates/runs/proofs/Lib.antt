@@ -7,5 +7,5 @@ pub mod Quiet
 pub mod Reaches
 pub mod Hosting
 pub mod Parts
-pub mod Helping
+pub mod Turns
 pub mod Beginning

@@ -1,9 +1,9 @@
 -- The inverse memory, row by row, and what it comes to. Assumes nothing.
-use Rattle.std.proofs.Common.{◌≡◌, ℕ, ◌+◌, ◌-◌, ◌*◌, ◌/◌, ◌%◌, ◌<◌, ◌≤◌, not, eqb, List, [], ◌++◌, length, get_or, take, sym, ap, ◌∙◌, arith, div-lt_iff_lt-mul, mod-lt, mul_comm, get_or-take, length-take-le, eqb-true}
+use Rattle.std.proofs.Common.{◌≡◌, ℕ, ◌+◌, ◌-◌, ◌*◌, ◌/◌, ◌%◌, ◌<◌, ◌≤◌, not, eqb, List, [], ◌++◌, length, get_or, take, drop, sym, ap, subst, suc-mul, ◌∙◌, arith, div-lt_iff_lt-mul, mod-lt, mul_comm, get_or-take, length-take-le, eqb-true}
 use native.Mathlib.Nat.{div-add-mod}
 use borrow.Author.Tests.{not-false, not-true, eqb-false}
-use borrow.Rule.Slice.PartMut.{post_of}
-use Rattle.std.proofs.lemmas.List.{get_or_append_left, get_or-append_right}
+use borrow.Rule.Slice.PartMut.{post_of, put_mid, drop_put}
+use Rattle.std.proofs.lemmas.List.{drop-drop, get_or_append_left, get_or-append_right}
 use Rattle.std.proofs.lemmas.List.FromFn.{fill_by_all}
 use Rattle.galois.specs.Bit.{bits, both}
 use Rattle.matrix.specs.Matrix.{Mat, Els, Same, delta, times, apply_row}
@@ -20,7 +20,7 @@ use Rattle.bits.proofs.Columns.{length-columns, get_or-columns}
 use Rattle.session.specs.Table.{Secret, wrong, nonzero, leading}
 use Rattle.session.specs.Answers.{with_row, unblinded}
 use Rattle.session.proofs.Products.{row-entries, product_lt, entry-columns}
-use Rattle.runs.specs.Law.{Inverts, SameProduct}
+use Rattle.runs.specs.Law.{Inverts, Untouched, SameProduct}
 use Rattle.runs.specs.Reached.{Held}
 
 -- a row written in its place
@@ -38,6 +38,28 @@ module _ (n i : ℕ) (bytes memory : List ℕ) (size : length bytes ≡ bytes_fo
       let a = i * bytes_for n in
       get_or_append_left (take a memory) (bytes ++ post_of a (bytes_for n) memory) 0 p (omega (arith, h, room, length-take-le a memory (omega (arith, room))))
       ∙ get_or-take a memory p 0 h
+
+  pub row-past : drop (i * bytes_for n + bytes_for n) (with_row n i bytes memory) ≡ drop (i * bytes_for n + bytes_for n) memory
+  row-past =
+      let a = i * bytes_for n in
+      let w : a + bytes_for n - a ≡ bytes_for n = omega arith in
+      ap (λ q. drop (a + bytes_for n) (put_mid a q memory bytes)) (sym w) ∙ drop_put a (a + bytes_for n) memory bytes (omega arith) room (size ∙ sym w)
+
+-- as many rows
+pub same-rows : (n : ℕ) {a b : ℕ} → a ≡ b → (memory before : List ℕ) → Untouched n b before memory → Untouched n a before memory
+same-rows n e memory before h = subst (λ c. Untouched n c before memory) (sym e) h
+
+-- one row more
+pub one-row-more : (n t : ℕ) (bytes memory before : List ℕ) → length bytes ≡ bytes_for n → t * bytes_for n + bytes_for n ≤ length memory → Untouched n t before memory → Untouched n (t + 1) before (with_row n t bytes memory)
+one-row-more n t bytes memory before size room h =
+    let w = bytes_for n in
+    let s : (t + 1) * w ≡ t * w + w = omega (arith, suc-mul t w) in
+    (λ i. drop (s i) (with_row n t bytes memory))
+    ∙ row-past n t bytes memory size room
+    ∙ sym (drop-drop w (t * w) memory)
+    ∙ ap (drop w) h
+    ∙ drop-drop w (t * w) before
+    ∙ (λ i. drop (sym s i) before)
 
 -- bytes of equal vectors
 byte-cong : (n : ℕ) (f g : ℕ → ℕ) (b : ℕ) → b < bytes_for n → ((k : ℕ) → k < n → f k ≡ g k) → byte_at n f b ≡ byte_at n g b

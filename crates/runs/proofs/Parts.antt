@@ -1,6 +1,7 @@
 -- The parts of a run. Assumes nothing.
-use Rattle.std.proofs.Common.{◌≡◌, ℕ, ◌+◌, ◌<◌, ◌≤◌, Bool, true, false, ◌&&◌, cond, eqb, eqb-true, ne_eqb, List, [], ◌∷◌, ◌++◌, map, length, get_or, take, drop, arith, sym, refl, ap, ◌∙◌, subst, append-nil, append_assoc}
+use Rattle.std.proofs.Common.{◌≡◌, ◌⊎◌, ℕ, ◌+◌, ◌<◌, ◌≤◌, Bool, true, false, ◌&&◌, cond, eqb, eqb-true, ne_eqb, List, [], ◌∷◌, ◌++◌, map, length, get_or, take, drop, arith, sym, refl, ap, ◌∙◌, subst, inl, inr, append-nil, append_assoc}
 use lib.Seq.{take-append_seam, drop-append_seam}
+use Rattle.std.proofs.lemmas.Bool.{false≢true}
 use borrow.Author.Tests.{eqb-false}
 use Rattle.std.proofs.lemmas.List.{length-append, length-take, length-map, map-append, nil_from_length}
 use Rattle.runs.specs.declared.calls.Call.{Call}
@@ -52,8 +53,8 @@ module _ (es p q all : List Event) (n h : ℕ) (is : all ≡ (es ++ p) ++ q) (fi
   pub listed-is : take n all ≡ es
   listed-is = (λ i. take (first i) ((is ∙ append_assoc es p q) i)) ∙ take-append_seam es (p ++ q)
 
-  pub helped-is : take h (drop n all) ≡ p
-  helped-is =
+  pub hosted-is : take h (drop n all) ≡ p
+  hosted-is =
       let rest : drop n all ≡ p ++ q = (λ i. drop (first i) ((is ∙ append_assoc es p q) i)) ∙ drop-append_seam es (p ++ q) in
       (λ i. take (second i) (rest i)) ∙ take-append_seam p q
 
@@ -65,6 +66,16 @@ pub made-le : (calls : List Call) (p : List Event) → map asked_in p ≡ take (
 made-le calls p made =
     let e : length p ≡ length (take (length p) (map asked_by calls)) = sym (length-map p asked_in) ∙ ap length made in
     omega (arith, e, length-take (length p) (map asked_by calls), length-map calls asked_by)
+
+-- where the first list was cut, and where our host was
+pub list-stops : (w1 w2 : Bool) (l1 l2 l3 a : ℕ) → w1 ≡ eqb l1 a → (w2 ≡ true → w1 ≡ true) → (w1 ≡ false → l2 ≡ l1) → (w2 ≡ false → l3 ≡ l2) → (l3 ≡ l1) ⊎ (l1 ≡ a)
+list-stops true w2 l1 l2 l3 a one above same stays = inr (eqb-true l1 a (sym one))
+list-stops false true l1 l2 l3 a one above same stays = absurd (false≢true (above refl))
+list-stops false false l1 l2 l3 a one above same stays = inl (stays refl ∙ same refl)
+
+pub host-stops : (w2 w3 : Bool) (l2 l3 b : ℕ) → w3 ≡ (w2 && eqb l3 (l2 + b)) → (w2 ≡ false → l3 ≡ l2) → (l3 ≡ l2) ⊎ (w3 ≡ eqb l3 (l2 + b))
+host-stops true w3 l2 l3 b three stays = inr three
+host-stops false w3 l2 l3 b three stays = inl (stays refl)
 
 -- whether two lists with nothing between them were made whole
 pub both-whole : (w1 w2 w3 : Bool) (l1 l2 l3 a b : ℕ) → w1 ≡ eqb l1 a → l1 ≤ a → w2 ≡ w1 → l2 ≡ l1 → w3 ≡ (w2 && eqb l3 (l2 + b)) → (w2 ≡ false → l3 ≡ l2) → w3 ≡ eqb l3 (a + b)

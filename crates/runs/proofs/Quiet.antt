@@ -22,11 +22,12 @@ use Rattle.runs.specs.declared.calls.Event.{Event}
 use Rattle.runs.specs.declared.calls.Event.TheVariants.{Answered, Closed, Published, NotAllowed}
 use Rattle.runs.specs.declared.calls.Stage.{Stage}
 use Rattle.runs.specs.declared.calls.Stage.TheVariants.{Open, Ready}
-use Rattle.runs.specs.Runs.{Card, Asked, taken, combined, phase_at, phase, answers, given_in, is_closing, is_publishing, closings, publishings, with_columns}
-use Rattle.runs.specs.Law.{Barred, AsTold}
+use Rattle.runs.specs.Runs.{Card, Asked, taken, combinations, phase_at, phase, answers, given_in, is_closing, is_publishing, closings, publishings, with_columns}
+use Rattle.runs.specs.Law.{Absent, AsTold}
 use Rattle.runs.specs.Reached.{Reached, Agrees, Goes, Notes, sent_columns}
 use Rattle.runs.proofs.Lists.{answers_more, closings_more, publishings_more, told_more}
 use Rattle.runs.proofs.Classes.{passed_before}
+use Rattle.runs.proofs.Memory.{same-rows}
 
 phase-one : (n t c : ℕ) → eqb (phase_at n t c) 0 ≡ false → eqb (phase_at n t c) 2 ≡ false → t ≡ n
 phase-one n t c = go (eqb t n) (eqb c 0) refl
@@ -47,12 +48,13 @@ module _ (k : Card) (past : List Event) (stage : Stage) (inverse : List ℕ) (st
         → store'.columns ≡ sent_columns k (publishings (past ++ e ∷ [])) inverse → Reached k (past ++ e ∷ []) stage' inverse store'
     quiet stage' store' agree few sizes listed =
         let t-is = ap taken same in
-        let c-is = ap combined same in
+        let c-is = ap combinations same in
         record {
           told = told_more k [] past e before.told told;
           agrees = agree;
           few = omega (arith, before.few, t-is);
           long = before.long;
+          untouched = same-rows k.secret.set.rows t-is inverse k.memory before.untouched;
           fits = λ h. before.fits (omega (arith, t-is, h));
           rows = λ j h. before.rows j (omega (arith, t-is, h));
           sent = few;
@@ -72,17 +74,23 @@ module _ (k : Card) (past : List Event) (stage : Stage) (inverse : List ℕ) (st
     idle nc np = quiet stage store (agree stage before.agrees) (omega (arith, publishings-kept np, before.sent)) before.sized (before.columns ∙ ap (λ p. sent_columns k p inverse) (sym (publishings-kept np)))
       where
         agree : (s : Stage) → Agrees k s past → Agrees k s (past ++ e ∷ [])
-        agree (Open o) a = (closings-kept nc ∙ a.0, a.1 ∙ ap taken (sym same), a.2 ∙ ap (phase k.secret.set.rows) (sym same), publishings-kept np ∙ a.3, a.4)
-        agree (Ready y) a = (closings-kept nc ∙ a.0, ap taken same ∙ a.1, a.2 ∙ sym (publishings-kept np), a.3)
+        agree (Open o) a = record {
+          unclosed = closings-kept nc ∙ a.unclosed;
+          rows = a.rows ∙ ap taken (sym same);
+          at_phase = a.at_phase ∙ ap (phase k.secret.set.rows) (sym same);
+          unsent = publishings-kept np ∙ a.unsent;
+          own = a.own;
+        }
+        agree (Ready y) a = record { closed = closings-kept nc ∙ a.closed; complete = ap taken same ∙ a.complete; sent = a.sent ∙ sym (publishings-kept np); own = a.own }
 
 -- a call that the session at hand does not have
 pub noted : (k : Card) (c : Asked) (stage : Stage) (inverse : List ℕ) (store : Store) (r : Result Event AllocError) → IfOk r (Notes c)
-    → ((past : List Event) → Agrees k stage past → Barred c (closings past)) → Goes k c stage inverse store r stage inverse store
+    → ((past : List Event) → Agrees k stage past → Absent c (closings past)) → Goes k c stage inverse store r stage inverse store
 noted k c stage inverse store (Ok (Answered x w a z)) n barred = absurd n
 noted k c stage inverse store (Ok (Closed x)) n barred = absurd n
 noted k c stage inverse store (Ok (Published w x)) n barred = absurd n
 noted k c stage inverse store (Ok (NotAllowed u)) n barred =
-    (n, λ past before. idle k past stage inverse store (NotAllowed u) before refl (subst (λ y. Barred y (closings past)) (sym n) (barred past before.agrees)) refl refl)
+    (n, λ past before. idle k past stage inverse store (NotAllowed u) before refl (subst (λ y. Absent y (closings past)) (sym n) (barred past before.agrees)) refl refl)
 noted k c stage inverse store (Err x) n barred = (refl, refl, refl)
 
 -- an accepted closing
@@ -92,12 +100,17 @@ closed-step k past o y inverse store before passed own none =
     let agree = before.agrees in
     let n = k.secret.set.rows in
     let e : Event = Closed None in
-    let told : AsTold k past e = (agree.0, passed ∙ (λ i. first (closing_lines (agree.2 i) (agree.1 i)))) in
+    let told : AsTold k past e = (agree.unclosed, passed ∙ (λ i. first (closing_lines (agree.at_phase i) (agree.rows i)))) in
     let silent = passed_before (closing_lines (phase_number o.phase) o.rows) [] (sym passed) in
-    let all : taken (answers past) ≡ n = phase-one n _ (combined (answers past)) (ap (λ p. eqb p 0) (sym agree.2) ∙ silent.0.0) (ap (λ p. eqb p 2) (sym agree.2) ∙ silent.0.1.0) in
+    let all : taken (answers past) ≡ n = phase-one n _ (combinations (answers past)) (ap (λ p. eqb p 0) (sym agree.at_phase) ∙ silent.0.0) (ap (λ p. eqb p 2) (sym agree.at_phase) ∙ silent.0.1.0) in
     let kept = publishings-kept k past (Open o) inverse store e before refl told refl in
     quiet k past (Open o) inverse store e before refl told (Ready y) store
-    (closings_more past e ∙ ap (λ x. x + 1) agree.0, ap taken (same k past (Open o) inverse store e before refl told) ∙ all, none ∙ sym (kept ∙ agree.3), own ∙ agree.4)
+    (record {
+      closed = closings_more past e ∙ ap (λ x. x + 1) agree.unclosed;
+      complete = ap taken (same k past (Open o) inverse store e before refl told) ∙ all;
+      sent = none ∙ sym (kept ∙ agree.unsent);
+      own = own ∙ agree.own;
+    })
     (omega (arith, kept, before.sent))
     before.sized
     (before.columns ∙ ap (λ p. sent_columns k p inverse) (sym kept))
@@ -130,7 +143,7 @@ module _ (k : Card) (past : List Event) (y y' : ready-state.Ready) (inverse : Li
       agree = before.agrees
 
       told : (x : Option SessionFault) → fault ≡ x → AsTold k past (Published working x)
-      told x is = (agree.0, sym is ∙ p.refused ∙ (λ i. first (publishing_lines (agree.3 i) k.secret.set (before.long i) working (agree.2 i) (before.sized.0 i) (before.sized.1 i) (held i))))
+      told x is = (agree.closed, sym is ∙ p.refused ∙ (λ i. first (publishing_lines (agree.own i) k.secret.set (before.long i) working (agree.sent i) (before.sized.0 i) (before.sized.1 i) (held i))))
 
       go : (x : Option SessionFault) → fault ≡ x → Reached k (past ++ Published working x ∷ []) (Ready y') inverse store'
       go None is =
@@ -145,11 +158,16 @@ module _ (k : Card) (past : List Event) (y y' : ready-state.Ready) (inverse : Li
           let v : List ℕ = public_column k.secret.set.rows k.secret.checks inverse y.sent in
           let store-is : store' ≡ with_column store v = p.holds ∙ ap (λ f. cond (is_some f) store (with_column store v)) is in
           quiet k past (Ready y) inverse store e before refl t (Ready y') store'
-          (closings-kept k past (Ready y) inverse store e before refl t refl ∙ agree.0, ap taken (same k past (Ready y) inverse store e before refl t) ∙ agree.1, sent-is ∙ ap (λ x. x + 1) agree.2 ∙ sym more, own ∙ agree.3)
-          (omega (arith, more, before.sent, unsent, agree.2))
+          (record {
+            closed = closings-kept k past (Ready y) inverse store e before refl t refl ∙ agree.closed;
+            complete = ap taken (same k past (Ready y) inverse store e before refl t) ∙ agree.complete;
+            sent = sent-is ∙ ap (λ x. x + 1) agree.sent ∙ sym more;
+            own = own ∙ agree.own;
+          })
+          (omega (arith, more, before.sent, unsent, agree.sent))
           (ap (λ s. s.size) store-is ∙ before.sized.0, ap (λ s. s.limit) store-is ∙ before.sized.1)
           (ap (λ s. s.columns) store-is
-          ∙ (λ i. before.columns i ++ pack (size-is i) (bits_of (public_column k.secret.set.rows k.secret.checks inverse (agree.2 i))) ∷ [])
+          ∙ (λ i. before.columns i ++ pack (size-is i) (bits_of (public_column k.secret.set.rows k.secret.checks inverse (agree.sent i))) ∷ [])
           ∙ sym (column-sent k.secret.set.rows (publishings past) k.secret.checks inverse)
           ∙ ap (λ q. sent_columns k q inverse) (sym more))
       go (Some x) is =
@@ -160,7 +178,12 @@ module _ (k : Card) (past : List Event) (y y' : ready-state.Ready) (inverse : Li
           let v : List ℕ = public_column k.secret.set.rows k.secret.checks inverse y.sent in
           let store-is : store' ≡ store = p.holds ∙ ap (λ f. cond (is_some f) store (with_column store v)) is in
           quiet k past (Ready y) inverse store e before refl t (Ready y') store'
-          (closings-kept k past (Ready y) inverse store e before refl t refl ∙ agree.0, ap taken (same k past (Ready y) inverse store e before refl t) ∙ agree.1, sent-is ∙ agree.2 ∙ sym same-count, own ∙ agree.3)
+          (record {
+            closed = closings-kept k past (Ready y) inverse store e before refl t refl ∙ agree.closed;
+            complete = ap taken (same k past (Ready y) inverse store e before refl t) ∙ agree.complete;
+            sent = sent-is ∙ agree.sent ∙ sym same-count;
+            own = own ∙ agree.own;
+          })
           (omega (arith, same-count, before.sent))
           (ap (λ s. s.size) store-is ∙ before.sized.0, ap (λ s. s.limit) store-is ∙ before.sized.1)
           (ap (λ s. s.columns) store-is ∙ before.columns ∙ ap (λ q. sent_columns k q inverse) (sym same-count))

@@ -1,5 +1,5 @@
 -- From what is kept to the law of runs. Assumes nothing.
-use Rattle.std.proofs.Common.{◌≡◌, ℕ, ◌<◌, cond, List, [], length, sym, refl, ap, ◌∙◌, arith, ne_eqb}
+use Rattle.std.proofs.Common.{◌≡◌, ℕ, ◌*◌, ◌<◌, cond, List, [], length, drop, sym, refl, ap, ◌∙◌, arith, ne_eqb}
 use Rattle.galois.specs.Bit.{bits}
 use Rattle.matrix.specs.Matrix.{Mat, Els, times}
 use Rattle.matrix.specs.Words.{from_column}
@@ -11,7 +11,7 @@ use Rattle.session.specs.State.{phase_number}
 use Rattle.runs.specs.declared.calls.Event.{Event}
 use Rattle.runs.specs.declared.calls.Stage.{Stage}
 use Rattle.runs.specs.declared.calls.Stage.TheVariants.{Open, Ready}
-use Rattle.runs.specs.Runs.{Card, answers, taken, combined, publishings}
+use Rattle.runs.specs.Runs.{Card, answers, taken, combinations, publishings}
 use Rattle.runs.specs.Law.{Complete, Law, PhaseZero}
 use Rattle.runs.specs.Reached.{Reached, Agrees, Held, sent_columns, Waiting}
 use Rattle.runs.proofs.Laws.{all_given, told-given}
@@ -29,6 +29,7 @@ reached-law k es stage inverse store some els at = record {
         at.columns,
       );
   unpublished = λ not-complete. at.columns ∙ ap (λ p. sent_columns k p inverse) (none-sent stage at.agrees not-complete) ∙ no-columns _ _;
+  untouched = at.untouched;
   inverted = λ complete. inverts k.secret.set.rows k.secret.checks inverse els (all-rows complete) some (at.long ∙ at.fits (omega (arith, complete, some)));
   singular = at.singular;
   alike = λ k' es' alike same told'. told-given k' [] es' told' ∙ (λ i. all_given (alike i) [] (same i)) ∙ sym (told-given k [] es at.told);
@@ -39,17 +40,18 @@ reached-law k es stage inverse store some els at = record {
     all-rows complete i h = at.rows i (omega (arith, complete, h))
 
     none-sent : (s : Stage) → Agrees k s es → (Complete k es → ⊥) → publishings es ≡ 0
-    none-sent (Open o) a no-way = a.3
-    none-sent (Ready y) a no-way = absurd (no-way a.1)
+    none-sent (Open o) a no-way = a.unsent
+    none-sent (Ready y) a no-way = absurd (no-way a.complete)
 
 -- a session just opened, and an empty sink
 pub fresh : (k : Card) (o : state.Open) (inverse : List ℕ) (store : Store) → o.set ≡ k.secret.set → phase_number o.phase ≡ 0 → o.rows ≡ 0 → 0 < k.secret.set.rows
-    → length inverse ≡ k.inverse → (store.size ≡ k.size) × (store.limit ≡ k.limit) → store.columns ≡ [] → Reached k [] (Open o) inverse store
-fresh k o inverse store own at0 none some long sizes empty = record {
+    → inverse ≡ k.memory → (store.size ≡ k.size) × (store.limit ≡ k.limit) → store.columns ≡ [] → Reached k [] (Open o) inverse store
+fresh k o inverse store own at0 none some same sizes empty = record {
   told = tt;
-  agrees = (refl, none, at0 ∙ sym (ap (λ b. cond b 1 0) (ne_eqb 0 k.secret.set.rows (omega (arith, some)))), refl, own);
+  agrees = record { unclosed = refl; rows = none; at_phase = at0 ∙ sym (ap (λ b. cond b 1 0) (ne_eqb 0 k.secret.set.rows (omega (arith, some)))); unsent = refl; own = own };
   few = omega arith;
-  long = long;
+  long = ap length same;
+  untouched = ap (λ m. drop (0 * bytes_for k.secret.set.rows) m) same;
   fits = λ h. absurd (omega (arith, h));
   rows = λ i h. absurd (omega (arith, h));
   sent = omega arith;
@@ -60,5 +62,5 @@ fresh k o inverse store own at0 none some long sizes empty = record {
 
 -- a session that was closed is not in phase 0
 pub waits : (k : Card) (es : List Event) (s : Stage) → Agrees k s es → PhaseZero k es → Waiting k es
-waits k es (Open o) a h = record { unclosed = a.0; at0 = h }
-waits k es (Ready y) a h = absurd ((phase-zero k.secret.set.rows (taken (answers es)) (combined (answers es)) h).0 a.1)
+waits k es (Open o) a h = record { unclosed = a.unclosed; at0 = h }
+waits k es (Ready y) a h = absurd ((phase-zero k.secret.set.rows (taken (answers es)) (combinations (answers es)) h).0 a.complete)

@@ -1,8 +1,10 @@
 -- What answering a frame keeps. Assumes nothing.
-use Rattle.std.proofs.Common.{◌≡◌, ◌≢◌, ℕ, ◌+◌, ◌-◌, ◌*◌, ◌<◌, ◌≤◌, Bool, true, false, cond, eqb, List, [], ◌∷◌, ◌++◌, length, take, Vec, Global, sym, refl, ap, ◌∙◌, subst, arith, add-zero, suc-mul, mul-le-mul_right, below_more, ne_eqb, eqb-true}
+use Rattle.std.proofs.Common.{◌≡◌, ◌≢◌, ℕ, ◌+◌, ◌-◌, ◌*◌, ◌<◌, ◌≤◌, Bool, true, false, cond, eqb, List, [], ◌∷◌, ◌++◌, length, take, drop, replicate, Vec, Global, sym, refl, ap, ◌∙◌, subst, arith, add-zero, suc-mul, mul-le-mul_right, below_more, ne_eqb, eqb-true}
 use borrow.Author.Tests.{eqb-false}
 use borrow.Rule.Slice.PartMut.{mid_of, same_len_mid, mid_len}
-use lib.Seq.{take-append_seam}
+use lib.Seq.{take-append_seam, drop-append_seam}
+use Rattle.std.proofs.lemmas.List.{drop-replicate, length-replicate}
+use Rattle.guard.specs.Zero.{AllZero}
 use Rattle.galois.specs.Bit.{bits}
 use Rattle.matrix.specs.Matrix.{Mat, apply_row}
 use Rattle.matrix.specs.Words.{Singular}
@@ -19,12 +21,12 @@ use Rattle.session.specs.Answers.{says, reply_of, rows_after, phase_after, inver
 use Rattle.runs.specs.declared.calls.Event.{Event}
 use Rattle.runs.specs.declared.calls.Event.TheVariants.{Answered}
 use Rattle.runs.specs.declared.calls.Stage.TheVariants.{Open}
-use Rattle.runs.specs.Runs.{Card, seen, Given, Sent, given_in, taken, combined, phase_at, answers, is_closing, is_publishing, closings, publishings}
-use Rattle.runs.specs.Law.{given, AsTold, Told}
-use Rattle.runs.specs.Reached.{Reached, Held, sent_columns}
+use Rattle.runs.specs.Runs.{Card, seen, Given, Sent, given_in, taken, combinations, phase_at, answers, is_closing, is_publishing, closings, publishings}
+use Rattle.runs.specs.Law.{given, AsTold, Told, Untouched}
+use Rattle.runs.specs.Reached.{Reached, Agrees, Held, sent_columns}
 use Rattle.runs.proofs.Lists.{count_more, answers_more, closings_more, publishings_more, told_more}
 use Rattle.runs.proofs.Classes.{row, combination, neither, classify}
-use Rattle.runs.proofs.Memory.{held-same, held-new, right-row, found-singular, row-below}
+use Rattle.runs.proofs.Memory.{held-same, held-new, right-row, found-singular, row-below, same-rows, one-row-more}
 
 -- phase 0: neither complete nor singular
 pub phase-zero : (n t c : ℕ) → phase_at n t c ≡ 0 → (t ≢ n) × (c ≡ 0)
@@ -43,8 +45,8 @@ module _ (past : List Event) (e : Event) (g : Given) (is : given_in e ≡ g ∷ 
   pub taken-more : taken (answers (past ++ e ∷ [])) ≡ taken (answers past) + cond (says 34 g.reply) 1 0
   taken-more = ap taken more ∙ count_more (λ a. says 34 a.reply) (answers past) g
 
-  pub combined-more : combined (answers (past ++ e ∷ [])) ≡ combined (answers past) + cond (says 35 g.reply) 1 0
-  combined-more = ap combined more ∙ count_more (λ a. says 35 a.reply) (answers past) g
+  pub combined-more : combinations (answers (past ++ e ∷ [])) ≡ combinations (answers past) + cond (says 35 g.reply) 1 0
+  combined-more = ap combinations more ∙ count_more (λ a. says 35 a.reply) (answers past) g
 
 long-with_row : (n t : ℕ) (bytes memory : List ℕ) → length bytes ≡ bytes_for n → t * bytes_for n + bytes_for n ≤ length memory → length (with_row n t bytes memory) ≡ length memory
 long-with_row n t bytes memory size room =
@@ -77,13 +79,13 @@ module _
     t = taken (answers past)
 
     abbrev c : ℕ
-    c = combined (answers past)
+    c = combinations (answers past)
 
     abbrev t' : ℕ
     t' = taken (answers (past ++ e ∷ []))
 
     abbrev c' : ℕ
-    c' = combined (answers (past ++ e ∷ []))
+    c' = combinations (answers (past ++ e ∷ []))
 
     module _
         (a-rows : o'.rows ≡ rows_after o.rows r)
@@ -111,6 +113,11 @@ module _
         told' : Told k [] (past ++ e ∷ [])
         told' = told_more k [] past e before.told told
 
+        agrees-with : o'.rows ≡ t' → phase_number o'.phase ≡ phase_at n t' c' → Agrees k (Open o') (past ++ e ∷ [])
+        agrees-with rows at_phase =
+            let agree = before.agrees in
+            record { unclosed = closings-same ∙ agree.unclosed; rows = rows; at_phase = at_phase; unsent = publishings-same ∙ agree.unsent; own = a-set ∙ agree.own }
+
         kept : says 34 r ≡ false → says 35 r ≡ false → Reached k (past ++ e ∷ []) (Open o') inverse' store
         kept n22 n23 =
             let agree = before.agrees in
@@ -121,9 +128,10 @@ module _
             let inverse-is : inverse' ≡ inverse = a-memory ∙ ap (λ b. cond b (with_row n o.rows (unblinded n k.secret.blinding (row_in f)) inverse) inverse) n22 in
             record {
               told = told';
-              agrees = (closings-same ∙ agree.0, rows-is ∙ agree.1 ∙ sym t-is, phase-is ∙ agree.2 ∙ (λ i. phase_at n (sym t-is i) (sym c-is i)), publishings-same ∙ agree.3, a-set ∙ agree.4);
+              agrees = agrees-with (rows-is ∙ agree.rows ∙ sym t-is) (phase-is ∙ agree.at_phase ∙ (λ i. phase_at n (sym t-is i) (sym c-is i)));
               few = omega (arith, before.few, t-is);
               long = ap length inverse-is ∙ before.long;
+              untouched = subst (Untouched n t' k.memory) (sym inverse-is) (same-rows n t-is inverse k.memory before.untouched);
               fits = λ h. before.fits (omega (arith, t-is, h));
               rows = λ j h. subst (λ l. Held n k.secret.checks l j) (sym inverse-is) (before.rows j (omega (arith, t-is, h)));
               sent = omega (arith, publishings-same, before.sent);
@@ -135,8 +143,8 @@ module _
         row-more : says 34 r ≡ true → says 35 r ≡ false → p ≡ 0 → m.inverse ≡ n * bytes_for n → n ≤ wrong n B (row_in f) o.rows → Reached k (past ++ e ∷ []) (Open o') inverse' store
         row-more y22 n23 at0 fit right =
             let agree = before.agrees in
-            let at : o.rows ≡ t = agree.1 in
-            let open-yet = phase-zero n t c (sym agree.2 ∙ at0) in
+            let at : o.rows ≡ t = agree.rows in
+            let open-yet = phase-zero n t c (sym agree.at_phase ∙ at0) in
             let t-is : t' ≡ t + 1 = t'-is ∙ ap (λ b. t + cond b 1 0) y22 in
             let c-is : c' ≡ c = c'-is ∙ ap (λ b. c + cond b 1 0) n23 ∙ add-zero _ in
             let rows-is : o'.rows ≡ t + 1 = a-rows ∙ ap (λ b. cond b (o.rows + 1) o.rows) y22 ∙ ap (λ x. x + 1) at in
@@ -147,12 +155,13 @@ module _
             let room : t * bytes_for n + bytes_for n ≤ length inverse = omega (arith, suc-mul t (bytes_for n), mul-le-mul_right (bytes_for n) below, mem, fit) in
             let size : length fresh ≡ bytes_for n = length-pack n (apply_row bits n k.secret.blinding (bits_of (row_in f))) in
             let same-long : length (with_row n t fresh inverse) ≡ length inverse = long-with_row n t fresh inverse size room in
-            let none-sent : publishings past ≡ 0 = agree.3 in
+            let none-sent : publishings past ≡ 0 = agree.unsent in
             record {
               told = told';
-              agrees = (closings-same ∙ agree.0, rows-is ∙ sym t-is, phase-is ∙ (λ i. phase_at n (sym t-is i) (sym (c-is ∙ open-yet.1) i)), publishings-same ∙ agree.3, a-set ∙ agree.4);
+              agrees = agrees-with (rows-is ∙ sym t-is) (phase-is ∙ (λ i. phase_at n (sym t-is i) (sym (c-is ∙ open-yet.1) i)));
               few = omega (arith, below, t-is);
               long = ap length inverse-is ∙ same-long ∙ before.long;
+              untouched = subst (Untouched n t' k.memory) (sym inverse-is) (same-rows n t-is (with_row n t fresh inverse) k.memory (one-row-more n t fresh inverse k.memory size room before.untouched));
               fits = λ h. sym before.long ∙ sym mem ∙ fit;
               rows = λ j h. subst (λ l. Held n k.secret.checks l j) (sym inverse-is) (below_more (λ x. Held n k.secret.checks (with_row n t fresh inverse) x) t
                   (λ x lt. held-same n k.secret.checks inverse (with_row n t fresh inverse) x
@@ -168,7 +177,7 @@ module _
         caught : says 34 r ≡ false → says 35 r ≡ true → p ≡ 0 → Singular bits n (entry_of B) → Reached k (past ++ e ∷ []) (Open o') inverse' store
         caught n22 y23 at0 found =
             let agree = before.agrees in
-            let open-yet = phase-zero n t c (sym agree.2 ∙ at0) in
+            let open-yet = phase-zero n t c (sym agree.at_phase ∙ at0) in
             let t-is : t' ≡ t = t'-is ∙ ap (λ b. t + cond b 1 0) n22 ∙ add-zero _ in
             let c-is : c' ≡ 1 = c'-is ∙ (λ i. open-yet.1 i + cond (y23 i) 1 0) in
             let rows-is : o'.rows ≡ o.rows = a-rows ∙ ap (λ b. cond b (o.rows + 1) o.rows) n22 in
@@ -177,9 +186,10 @@ module _
             let not-all : eqb t n ≡ false = ne_eqb t n open-yet.0 in
             record {
               told = told';
-              agrees = (closings-same ∙ agree.0, rows-is ∙ agree.1 ∙ sym t-is, phase-is ∙ sym ((λ i. phase_at n (t-is i) (c-is i)) ∙ ap (λ b. cond b 1 2) not-all), publishings-same ∙ agree.3, a-set ∙ agree.4);
+              agrees = agrees-with (rows-is ∙ agree.rows ∙ sym t-is) (phase-is ∙ sym ((λ i. phase_at n (t-is i) (c-is i)) ∙ ap (λ b. cond b 1 2) not-all));
               few = omega (arith, before.few, t-is);
               long = ap length inverse-is ∙ before.long;
+              untouched = subst (Untouched n t' k.memory) (sym inverse-is) (same-rows n t-is inverse k.memory before.untouched);
               fits = λ h. before.fits (omega (arith, t-is, h));
               rows = λ j h. subst (λ l. Held n k.secret.checks l j) (sym inverse-is) (before.rows j (omega (arith, t-is, h)));
               sent = omega (arith, publishings-same, before.sent);
@@ -196,6 +206,12 @@ module _
               | neither n22 n23 ↦ kept n22 n23
             ]
 
+-- a part of cleared memory
+zero-past : (n : ℕ) (xs : List ℕ) → AllZero xs → AllZero (drop n xs)
+zero-past n xs zero =
+    let e : drop n xs ≡ replicate (length xs - n) 0 = ap (drop n) zero ∙ drop-replicate n (length xs) 0 in
+    e ∙ ap (λ l. replicate l 0) (sym (ap length e ∙ length-replicate (length xs - n) 0))
+
 -- a frame f answered, in memories of the lengths m; x keeps the frame, and z the reply memory
 module _
     (k : Card) (past : List Event) (o o' : state.Open) (inverse inverse' : List ℕ) (store : Store)
@@ -203,8 +219,8 @@ module _
     (before : Reached k past (Open o) inverse store)
     (ans : does.Answered o.set k.secret (phase_number o.phase) o.rows inverse m f old a (phase_number o'.phase) o'.rows inverse' bytes)
     (a-set : o'.set ≡ o.set)
-    (mi : m.inverse ≡ k.inverse) (mw : m.working ≡ w) (mr : m.reply ≡ length z.items) (mf : f ≡ x.items)
-    (cut : take a.length z.items ≡ take a.length bytes)
+    (mi : m.inverse ≡ length k.memory) (mw : m.working ≡ w) (mr : m.reply ≡ length z.items) (mf : f ≡ x.items)
+    (same : z.items ≡ bytes) (zero : AllZero old)
   where
     abbrev s : Sent
     s = record { frame = x.items; working = w; reply = length z.items }
@@ -213,7 +229,7 @@ module _
     g = record { fault = a.fault; long = a.length; reply = take a.length z.items }
 
     abbrev set-is : o.set ≡ k.secret.set
-    set-is = before.agrees.4
+    set-is = before.agrees.own
 
     abbrev reply : List ℕ
     reply = reply_of k.secret.set k.secret.set k.secret.order (product k.secret) (phase_number o.phase) o.rows m f
@@ -222,12 +238,18 @@ module _
     own = ap (λ y. reply_of y k.secret.set k.secret.order (product k.secret) (phase_number o.phase) o.rows m f) set-is
 
     stands : take a.length z.items ≡ reply
-    stands = cut ∙ (λ i. take (ans.long i) (ans.bytes i)) ∙ take-append_seam _ _ ∙ own
+    stands = (λ i. take (ans.long i) ((same ∙ ans.bytes) i)) ∙ take-append_seam _ _ ∙ own
+
+    abbrev theirs : List ℕ
+    theirs = reply_of o.set k.secret.set k.secret.order (product k.secret) (phase_number o.phase) o.rows m f
+
+    past-it : AllZero (drop a.length z.items)
+    past-it = subst AllZero (sym ((λ i. drop (ans.long i) ((same ∙ ans.bytes) i)) ∙ drop-append_seam theirs (drop (length theirs) old))) (zero-past (length theirs) old zero)
 
     by-answers : g ≡ given (seen k) (answers past) s
     by-answers =
-        let ph = before.agrees.2 in
-        let rw = before.agrees.1 in
+        let ph = before.agrees.at_phase in
+        let rw = before.agrees.rows in
         let reply-path : reply ≡ (given (seen k) (answers past) s).reply = λ i. reply_of k.secret.set k.secret.set k.secret.order (product k.secret) (ph i) (rw i) (record { inverse = mi i; working = mw i; reply = mr i }) (mf i) in
         let fault-is : a.fault ≡ (given (seen k) (answers past) s).fault = ans.fault ∙ (λ i. first (answering_lines (set-is i) k.secret.set k.secret.order (product k.secret) (ph i) (rw i) (record { inverse = mi i; working = mw i; reply = mr i }) (mf i))) in
         let long-is : a.length ≡ (given (seen k) (answers past) s).long = ans.long ∙ ap length (own ∙ reply-path) in
@@ -239,4 +261,4 @@ module _
         (ans.rows ∙ ap (rows_after o.rows) own)
         (ans.at_phase ∙ ap (phase_after k.secret.set.rows (phase_number o.phase) o.rows) own)
         (ans.memory ∙ ap (λ y. inverse_after k.secret.set.rows k.secret.blinding o.rows (row_in f) y inverse) own)
-        a-set (mi ∙ sym before.long) refl stands refl refl (before.agrees.0, ap (λ y. y ∷ []) by-answers)
+        a-set (mi ∙ sym before.long) refl stands refl refl (before.agrees.unclosed, ap (λ y. y ∷ []) by-answers, past-it)

@@ -3,7 +3,7 @@
 -- Sent, Given              a frame and its memories; what it was answered
 -- sent_in, given_in, ..    of one event
 -- frames, answers          of a run
--- taken, combined, phase   counted from the answers
+-- taken, combinations, phase   counted from the answers
 -- closings, publishings    how many were accepted
 -- Asked, asked_by, ..      the calls of a list, and those of events
 -- with_columns             a store with other columns
@@ -20,16 +20,16 @@ use Rattle.runs.specs.declared.calls.Unmade.TheVariants as unmade
 use Rattle.runs.specs.declared.calls.Event.{Event}
 use Rattle.runs.specs.declared.calls.Event.TheVariants.{Answered, Closed, Published, NotAllowed}
 
--- what the calls of one run share: key and blinding, the length of the inverse memory, the sink's size and limit
+-- what the calls of one run share: key and blinding, the inverse memory as the run found it, the sink's size and limit
 pub record Card : Type 0 where
   pub secret : Secret
-  pub inverse : ℕ
+  pub memory : List ℕ
   pub size : ℕ
   pub limit : ℕ
 
 -- a card by its parts
-abbrev pub card : Secret → ℕ → Store → Card
-card k l s = record { secret = k; inverse = l; size = s.size; limit = s.limit }
+abbrev pub card : Secret → List ℕ → Store → Card
+card k m s = record { secret = k; memory = m; size = s.size; limit = s.limit }
 
 -- what of a card may be seen: its set, the blinding's size, B, and the length of the inverse memory
 pub record Seen : Type 0 where
@@ -40,7 +40,7 @@ pub record Seen : Type 0 where
 
 -- what of this card may be seen
 abbrev pub seen : Card → Seen
-seen k = record { set = k.secret.set; order = k.secret.order; columns = product k.secret; inverse = k.inverse }
+seen k = record { set = k.secret.set; order = k.secret.order; columns = product k.secret; inverse = length k.memory }
 
 -- a frame with the lengths of the memories that come with it
 pub record Sent : Type 0 where
@@ -68,7 +68,7 @@ given_in (Closed x) = []
 given_in (Published w x) = []
 given_in (NotAllowed c) = []
 
--- the frames of a run
+-- the frames of a run that were answered; those of calls that were not made do not count
 abbrev pub frames : List Event → List Sent
 frames = flat_map sent_in
 
@@ -81,8 +81,8 @@ abbrev pub taken : List Given → ℕ
 taken = count_by (λ a. says 34 a.reply)
 
 -- combinations taken: the frames answered 23 (35 in decimal)
-abbrev pub combined : List Given → ℕ
-combined = count_by (λ a. says 35 a.reply)
+abbrev pub combinations : List Given → ℕ
+combinations = count_by (λ a. says 35 a.reply)
 
 -- the phase of n rows, t of them taken, and c combinations: 1 complete, 2 singular, 0 until then
 abbrev pub phase_at : ℕ → ℕ → ℕ → ℕ
@@ -90,7 +90,7 @@ phase_at n t c = cond (t == n) 1 (cond (c == 0) 0 2)
 
 -- the phase after these answers
 abbrev pub phase : ℕ → List Given → ℕ
-phase n gs = phase_at n (taken gs) (combined gs)
+phase n gs = phase_at n (taken gs) (combinations gs)
 
 -- an accepted closing
 abbrev pub is_closing : Event → Bool

@@ -75,6 +75,6 @@ pub struct Run {
     pub stage: Stage,
     pub events: Vec<Event>,
     pub listed: usize,
-    pub helped: usize,
+    pub hosted: usize,
     pub whole: bool,
 }

@@ -3,15 +3,15 @@
 // steps. Which calls a list has, and by which transport frames come, is left to others.
 #![tactic(auto)]
 
-ghost use Rattle.std.specs.Prelude.{◌≡◌, ℕ, ◌+◌, ◌*◌, ◌≤◌, true, false, cond, ◌&&◌, List, [], ◌∷◌, ◌++◌, map, take, length, All, IfOk, Ok, None, MatchOption, IfSome, ◌==◌, vec_len};
+ghost use Rattle.std.specs.Prelude.{◌≡◌, ℕ, ◌+◌, ◌*◌, ◌≤◌, true, false, cond, ◌&&◌, List, [], ◌∷◌, ◌++◌, map, take, length, All, IfOk, Ok, MatchOption, IfSome, ◌==◌, vec_len};
 ghost use Rattle.matrix.specs.Matrix.{Mat};
 ghost use Rattle.params.specs.Sets.{named};
 ghost use Rattle.sink.specs.Store.{Store};
 ghost use Rattle.session.specs.Table.{secret};
 ghost use Rattle.bits.specs.Bits.{bytes_for};
 ghost use Rattle.runs.specs.Runs.{Card, card, framed, closing, publishing, asked_by, asked_in, with_columns};
-ghost use Rattle.runs.specs.Law.{Law, OfSet, Fitting, PhaseZero, Finished, Lends, Hosted, listed_part, helped_part, rest_part};
-ghost use Rattle.runs.specs.Reached.{Reached, Goes, Notes, Adds, reply_in, Waiting, Helping, turns, Helped};
+ghost use Rattle.runs.specs.Law.{Law, Unknown, OfSet, Fitting, PhaseZero, Finished, Lends, Hosted, listed_part, hosted_part, rest_part, Stops};
+ghost use Rattle.runs.specs.Reached.{Reached, Goes, Notes, Adds, reply_in, Waiting, Hosting, turns, AfterTurn};
 
 pub mod calls;
 
@@ -58,7 +58,7 @@ fn answer<K: Key, O: Operator>(
     working: usize,
     reply: usize,
 ) -> Result<Event, AllocError>
-    ensures { (store : Store) → let k = card (secret (K.sizes key.now) (K.checks key.now) (O.order blinding.now) (O.matrix blinding.now)) (length inverse.old) store in
+    ensures { (m : List ℕ) (s store : Store) → let k = card (secret (K.sizes key.now) (K.checks key.now) (O.order blinding.now) (O.matrix blinding.now)) m s in
         Goes k (framed (record { frame = frame.now; working = working; reply = reply })) (Stage.Open session.old) inverse.old store result (Stage.Open session.new) inverse.new store }
 {
     let frame = Vec::from_slice(heap, frame)?;
@@ -96,13 +96,71 @@ fn publish<K: Key, S: Sink>(
     ready: &mut Ready,
     working: usize,
 ) -> Result<Event, AllocError>
-    ensures goes { (order : ℕ) (R : Mat) → let k = card (secret (K.sizes key.now) (K.checks key.now) order R) (length inverse.now) (S.store sink.old) in
+    ensures goes { (order : ℕ) (R : Mat) (m : List ℕ) (s : Store) → let k = card (secret (K.sizes key.now) (K.checks key.now) order R) m s in
         Goes k (publishing working) (Stage.Ready ready.old) inverse.now (S.store sink.old) result (Stage.Ready ready.new) inverse.now (S.store sink.new) }
     ensures sink { S.store sink.new ≡ with_columns (S.store sink.old) (S.store sink.new).columns }
 {
     let mut work = vec![in heap; 0u8; working]?;
     let fault = ready.publish(key, inverse, &mut work, sink).err();
     Ok(Event::Published { working, fault })
+}
+
+// A session just opened. With an empty sink `make` goes on from it, and the law holds of all that was reached so.
+pub fn begin<K: Key>(key: &K) -> Stage
+    ensures reached { (order : ℕ) (R : Mat) (inverse : List ℕ) (store : Store) → let k = card (secret (K.sizes key.now) (K.checks key.now) order R) inverse store in
+        store.columns ≡ [] → Reached k [] result inverse store }
+    ensures law { (order : ℕ) (R : Mat) (m : List ℕ) (s : Store) (past : List Event) (stage : Stage) (inverse : List ℕ) (store : Store) →
+        let k = card (secret (K.sizes key.now) (K.checks key.now) order R) m s in Reached k past stage inverse store → Law k past inverse store.columns }
+{
+    Stage::Open(Open::new(key))
+}
+
+// Makes one call on an open session.
+fn make_open<K: Key, O: Operator>(
+    heap: Global,
+    key: &K,
+    blinding: &O,
+    inverse: &mut [u8],
+    session: Open,
+    call: &Call<'_>,
+) -> Step
+    ensures { (m : List ℕ) (s store : Store) → let k = card (secret (K.sizes key.now) (K.checks key.now) (O.order blinding.now) (O.matrix blinding.now)) m s in
+        Goes k (asked_by call.now) (Stage.Open session) inverse.old store result.event result.stage inverse.new store }
+{
+    let mut session = session;
+    match *call {
+        Call::Answer {
+            frame,
+            working,
+            reply,
+        } => {
+            let event = answer(
+                heap,
+                key,
+                blinding,
+                inverse,
+                &mut session,
+                frame,
+                working,
+                reply,
+            );
+            Step {
+                stage: Stage::Open(session),
+                event,
+            }
+        }
+        Call::Close => {
+            let (stage, event) = close(session);
+            Step {
+                stage,
+                event: Ok(event),
+            }
+        }
+        Call::Publish { .. } => Step {
+            stage: Stage::Open(session),
+            event: not_allowed(heap, call),
+        },
+    }
 }
 
 // Makes one call on the session at hand, in new memories of the call's lengths.
@@ -115,44 +173,12 @@ pub fn make<K: Key, O: Operator, S: Sink>(
     stage: Stage,
     call: &Call<'_>,
 ) -> Step
-    ensures goes { let k = card (secret (K.sizes key.now) (K.checks key.now) (O.order blinding.now) (O.matrix blinding.now)) (length inverse.old) (S.store sink.old) in
+    ensures goes { (m : List ℕ) (s : Store) → let k = card (secret (K.sizes key.now) (K.checks key.now) (O.order blinding.now) (O.matrix blinding.now)) m s in
         Goes k (asked_by call.now) stage inverse.old (S.store sink.old) result.event result.stage inverse.new (S.store sink.new) }
     ensures sink { S.store sink.new ≡ with_columns (S.store sink.old) (S.store sink.new).columns }
 {
     match stage {
-        Stage::Open(mut session) => match *call {
-            Call::Answer {
-                frame,
-                working,
-                reply,
-            } => {
-                let event = answer(
-                    heap,
-                    key,
-                    blinding,
-                    inverse,
-                    &mut session,
-                    frame,
-                    working,
-                    reply,
-                );
-                Step {
-                    stage: Stage::Open(session),
-                    event,
-                }
-            }
-            Call::Close => {
-                let (stage, event) = close(session);
-                Step {
-                    stage,
-                    event: Ok(event),
-                }
-            }
-            Call::Publish { .. } => Step {
-                stage: Stage::Open(session),
-                event: not_allowed(heap, call),
-            },
-        },
+        Stage::Open(session) => make_open(heap, key, blinding, inverse, session, call),
         Stage::Ready(mut ready) => match *call {
             Call::Publish { working } => {
                 let event = publish(heap, key, inverse, sink, &mut ready, working);
@@ -180,7 +206,7 @@ fn turn<K: Key, O: Operator, S: Sink>(
     run: Run,
     call: &Call<'_>,
 ) -> Run
-    ensures reached { (l : ℕ) (s : Store) → let k = card (secret (K.sizes key.now) (K.checks key.now) (O.order blinding.now) (O.matrix blinding.now)) l s in
+    ensures reached { (m : List ℕ) (s : Store) → let k = card (secret (K.sizes key.now) (K.checks key.now) (O.order blinding.now) (O.matrix blinding.now)) m s in
         Reached k run.events.items run.stage inverse.old (S.store sink.old) → Reached k result.events.items result.stage inverse.new (S.store sink.new) }
     ensures grows { Adds run.events.items result.events.items (λ part. map asked_in part ≡ cond result.whole (asked_by call.now ∷ []) []) }
     ensures count { vec_len result.events ≡ vec_len run.events + cond result.whole 1 0 }
@@ -210,7 +236,7 @@ fn make_all<K: Key, O: Operator, S: Sink>(
     run: Run,
     calls: &[Call<'_>],
 ) -> Run
-    ensures reached { (l : ℕ) (s : Store) → let k = card (secret (K.sizes key.now) (K.checks key.now) (O.order blinding.now) (O.matrix blinding.now)) l s in
+    ensures reached { (m : List ℕ) (s : Store) → let k = card (secret (K.sizes key.now) (K.checks key.now) (O.order blinding.now) (O.matrix blinding.now)) m s in
         Reached k run.events.items run.stage inverse.old (S.store sink.old) → Reached k result.events.items result.stage inverse.new (S.store sink.new) }
     ensures grows { Adds run.events.items result.events.items (λ part. map asked_in part ≡ take (length part) (map asked_by calls.now)) }
     ensures whole { result.whole ≡ (run.whole && vec_len result.events == vec_len run.events + length calls.now) }
@@ -231,7 +257,7 @@ fn make_all<K: Key, O: Operator, S: Sink>(
 }
 
 // The reply of an event.
-fn reply_of(event: &Event) -> &[u8]
+fn reply_in(event: &Event) -> &[u8]
     ensures { result.now ≡ reply_in event.now }
 {
     match event {
@@ -248,7 +274,7 @@ fn last_reply(events: &[Event]) -> &[u8]
     ensures { (past : List Event) (e : Event) → events.now ≡ past ++ e ∷ [] → result.now ≡ reply_in e }
 {
     match events.last() {
-        Some(event) => reply_of(event),
+        Some(event) => reply_in(event),
         None => &[],
     }
 }
@@ -268,13 +294,13 @@ fn ask<K: Key, O: Operator, S: Sink>(
     l: usize,
 ) -> (Run, bool)
     requires { l ≤ 208 }
-    ensures reached { (m : ℕ) (s : Store) → let k = card (secret (K.sizes key.now) (K.checks key.now) (O.order blinding.now) (O.matrix blinding.now)) m s in
+    ensures reached { (m : List ℕ) (s : Store) → let k = card (secret (K.sizes key.now) (K.checks key.now) (O.order blinding.now) (O.matrix blinding.now)) m s in
         Reached k run.events.items run.stage inverse.old (S.store sink.old) → Reached k result.0.events.items result.0.stage inverse.new (S.store sink.new) }
     ensures grows { Adds run.events.items result.0.events.items (λ part. All (λ e. Lends l (asked_in e)) part
-        × ((m : ℕ) (s : Store) (before after : List Event) → let k = card (secret (K.sizes key.now) (K.checks key.now) (O.order blinding.now) (O.matrix blinding.now)) m s in
+        × ((m : List ℕ) (s : Store) (before after : List Event) → let k = card (secret (K.sizes key.now) (K.checks key.now) (O.order blinding.now) (O.matrix blinding.now)) m s in
         Reached k run.events.items run.stage inverse.old (S.store sink.old) → Fitting k → l ≡ bytes_for k.secret.set.rows → run.events.items ≡ before ++ after
-        → Helping k before after host.old.size host.old.stage first.old second.old frame.old → result.0.whole ≡ true
-        → Helped k before (after ++ part) result.1 host.old.size host.old.stage host.new.stage first.new second.new frame.new)) }
+        → Hosting k before after host.old.size host.old.stage first.old second.old frame.old → result.0.whole ≡ true
+        → AfterTurn k before (after ++ part) result.1 host.old.size host.old.stage host.new.stage first.new second.new frame.new)) }
     ensures more { result.1 ≡ true → result.0.whole ≡ true }
     ensures size { host.new.size ≡ host.old.size }
     ensures sink { S.store sink.new ≡ with_columns (S.store sink.old) (S.store sink.new).columns }
@@ -313,12 +339,12 @@ fn ask_all<K: Key, O: Operator, S: Sink>(
     limit: usize,
 ) -> Run
     requires { l ≤ 208 }
-    ensures reached { (m : ℕ) (s : Store) → let k = card (secret (K.sizes key.now) (K.checks key.now) (O.order blinding.now) (O.matrix blinding.now)) m s in
+    ensures reached { (m : List ℕ) (s : Store) → let k = card (secret (K.sizes key.now) (K.checks key.now) (O.order blinding.now) (O.matrix blinding.now)) m s in
         Reached k run.events.items run.stage inverse.old (S.store sink.old) → Reached k result.events.items result.stage inverse.new (S.store sink.new) }
     ensures grows { Adds run.events.items result.events.items (λ part. All (λ e. Lends l (asked_in e)) part
-        × ((m : ℕ) (s : Store) → let k = card (secret (K.sizes key.now) (K.checks key.now) (O.order blinding.now) (O.matrix blinding.now)) m s in
+        × ((m : List ℕ) (s : Store) → let k = card (secret (K.sizes key.now) (K.checks key.now) (O.order blinding.now) (O.matrix blinding.now)) m s in
         Reached k run.events.items run.stage inverse.old (S.store sink.old) → Fitting k → l ≡ bytes_for k.secret.set.rows
-        → Helping k run.events.items [] host.old.size host.old.stage first.old second.old frame.old → turns host.old.size host.old.stage ≤ limit → result.whole ≡ true
+        → Hosting k run.events.items [] host.old.size host.old.stage first.old second.old frame.old → turns host.old.size host.old.stage ≤ limit → result.whole ≡ true
         → Finished k run.events.items part)) }
     ensures sink { S.store sink.new ≡ with_columns (S.store sink.old) (S.store sink.new).columns }
 {
@@ -345,12 +371,13 @@ fn finish<K: Key, O: Operator, S: Sink>(
     run: Run,
     name: &str,
 ) -> Run
-    ensures reached { (l : ℕ) (s : Store) → let k = card (secret (K.sizes key.now) (K.checks key.now) (O.order blinding.now) (O.matrix blinding.now)) l s in
+    ensures reached { (m : List ℕ) (s : Store) → let k = card (secret (K.sizes key.now) (K.checks key.now) (O.order blinding.now) (O.matrix blinding.now)) m s in
         Reached k run.events.items run.stage inverse.old (S.store sink.old) → Reached k result.events.items result.stage inverse.new (S.store sink.new) }
     ensures grows { Adds run.events.items result.events.items (λ part. Hosted (named name.now) part
-        × ((m : ℕ) (s : Store) → let k = card (secret (K.sizes key.now) (K.checks key.now) (O.order blinding.now) (O.matrix blinding.now)) m s in
+        × ((m : List ℕ) (s : Store) → let k = card (secret (K.sizes key.now) (K.checks key.now) (O.order blinding.now) (O.matrix blinding.now)) m s in
         Reached k run.events.items run.stage inverse.old (S.store sink.old) → OfSet k (named name.now) → Fitting k → Waiting k run.events.items → result.whole ≡ true
         → Finished k run.events.items part)) }
+    ensures unknown { Unknown (named name.now) → result.whole ≡ run.whole }
     ensures sink { S.store sink.new ≡ with_columns (S.store sink.old) (S.store sink.new).columns }
 {
     let mut run = run;
@@ -392,37 +419,38 @@ fn finish<K: Key, O: Operator, S: Sink>(
 }
 
 // Our host, if it is called for and memory has reached so far.
-fn help_on<K: Key, O: Operator, S: Sink>(
+fn host_on<K: Key, O: Operator, S: Sink>(
     heap: Global,
     key: &K,
     blinding: &O,
     inverse: &mut [u8],
     sink: &mut S,
     run: Run,
-    help: Option<&str>,
+    host_set: Option<&str>,
 ) -> Run
-    ensures reached { (l : ℕ) (s : Store) → let k = card (secret (K.sizes key.now) (K.checks key.now) (O.order blinding.now) (O.matrix blinding.now)) l s in
+    ensures reached { (m : List ℕ) (s : Store) → let k = card (secret (K.sizes key.now) (K.checks key.now) (O.order blinding.now) (O.matrix blinding.now)) m s in
         Reached k run.events.items run.stage inverse.old (S.store sink.old) → Reached k result.events.items result.stage inverse.new (S.store sink.new) }
-    ensures grows { Adds run.events.items result.events.items (λ part. MatchOption help.entry (part ≡ []) (λ name. Hosted (named name.now) part)
-        × ((m : ℕ) (s : Store) → let k = card (secret (K.sizes key.now) (K.checks key.now) (O.order blinding.now) (O.matrix blinding.now)) m s in
-        Reached k run.events.items run.stage inverse.old (S.store sink.old) → IfSome help.entry (λ name. OfSet k (named name.now) → Fitting k → Waiting k run.events.items → result.whole ≡ true
+    ensures grows { Adds run.events.items result.events.items (λ part. MatchOption host_set.entry (part ≡ []) (λ name. Hosted (named name.now) part)
+        × ((m : List ℕ) (s : Store) → let k = card (secret (K.sizes key.now) (K.checks key.now) (O.order blinding.now) (O.matrix blinding.now)) m s in
+        Reached k run.events.items run.stage inverse.old (S.store sink.old) → IfSome host_set.entry (λ name. OfSet k (named name.now) → Fitting k → Waiting k run.events.items → result.whole ≡ true
         → Finished k run.events.items part))) }
     ensures whole { result.whole ≡ true → run.whole ≡ true }
-    ensures alone { help.entry ≡ None → result.whole ≡ run.whole }
+    ensures stays { run.whole ≡ false → vec_len result.events ≡ vec_len run.events }
+    ensures alone { MatchOption host_set.entry (Unit {0}) (λ name. Unknown (named name.now)) → result.whole ≡ run.whole }
     ensures sink { S.store sink.new ≡ with_columns (S.store sink.old) (S.store sink.new).columns }
 {
     if !run.whole {
         return run;
     }
-    match help {
+    match host_set {
         Some(name) => finish(heap, key, blinding, inverse, sink, run, name),
         None => run,
     }
 }
 
 // A run on a session just opened: the calls of a list in order, then our host's frames where a set's name is
-// given, then the calls of a second list. While our host sends, no other call comes. The law is of every such
-// run, and of no state that a session keeps.
+// given, then the calls of a second list. While our host sends, no other call comes. Where memory lacks, nothing
+// comes after. The law is of every such run, and of no state that a session keeps.
 pub fn run<K: Key, O: Operator, S: Sink>(
     heap: Global,
     key: &K,
@@ -430,34 +458,37 @@ pub fn run<K: Key, O: Operator, S: Sink>(
     inverse: &mut [u8],
     sink: &mut S,
     calls: &[Call<'_>],
-    help: Option<&str>,
+    host_set: Option<&str>,
     rest: &[Call<'_>],
 ) -> Run
-    ensures law { let k = card (secret (K.sizes key.now) (K.checks key.now) (O.order blinding.now) (O.matrix blinding.now)) (length inverse.old) (S.store sink.old) in
+    ensures law { let k = card (secret (K.sizes key.now) (K.checks key.now) (O.order blinding.now) (O.matrix blinding.now)) inverse.old (S.store sink.old) in
         (S.store sink.old).columns ≡ [] → Law k result.events.items inverse.new (S.store sink.new).columns }
-    ensures finished { let k = card (secret (K.sizes key.now) (K.checks key.now) (O.order blinding.now) (O.matrix blinding.now)) (length inverse.old) (S.store sink.old) in
-        (S.store sink.old).columns ≡ [] → IfSome help.entry (λ name. OfSet k (named name.now) → Fitting k → PhaseZero k (listed_part result) → result.whole ≡ true
-        → Finished k (listed_part result) (helped_part result)) }
+    ensures reached { let k = card (secret (K.sizes key.now) (K.checks key.now) (O.order blinding.now) (O.matrix blinding.now)) inverse.old (S.store sink.old) in
+        (S.store sink.old).columns ≡ [] → Reached k result.events.items result.stage inverse.new (S.store sink.new) }
+    ensures finished { let k = card (secret (K.sizes key.now) (K.checks key.now) (O.order blinding.now) (O.matrix blinding.now)) inverse.old (S.store sink.old) in
+        (S.store sink.old).columns ≡ [] → IfSome host_set.entry (λ name. OfSet k (named name.now) → Fitting k → PhaseZero k (listed_part result) → result.whole ≡ true
+        → Finished k (listed_part result) (hosted_part result)) }
     ensures made { map asked_in (listed_part result) ≡ take result.listed (map asked_by calls.now) }
-    ensures helped { MatchOption help.entry (result.helped ≡ 0) (λ name. Hosted (named name.now) (helped_part result)) }
+    ensures hosted { MatchOption host_set.entry (result.hosted ≡ 0) (λ name. Hosted (named name.now) (hosted_part result)) }
     ensures rest { map asked_in (rest_part result) ≡ take (length (rest_part result)) (map asked_by rest.now) }
-    ensures whole { result.whole ≡ true → (result.listed ≡ length calls.now) × (vec_len result.events ≡ result.listed + result.helped + length rest.now) }
-    ensures alone { help.entry ≡ None → result.whole ≡ (vec_len result.events == length calls.now + length rest.now) }
+    ensures whole { result.whole ≡ true → (result.listed ≡ length calls.now) × (vec_len result.events ≡ result.listed + result.hosted + length rest.now) }
+    ensures stops { Stops result (length calls.now) (length rest.now) }
+    ensures alone { MatchOption host_set.entry (Unit {0}) (λ name. Unknown (named name.now)) → result.whole ≡ (vec_len result.events == length calls.now + length rest.now) }
     ensures sink { S.store sink.new ≡ with_columns (S.store sink.old) (S.store sink.new).columns }
 {
     let run = Run {
-        stage: Stage::Open(Open::new(key)),
+        stage: begin(key),
         events: Vec::new(heap),
         listed: 0,
-        helped: 0,
+        hosted: 0,
         whole: true,
     };
     let run = make_all(heap, key, blinding, inverse, sink, run, calls);
     let listed = run.events.len();
-    let run = help_on(heap, key, blinding, inverse, sink, run, help);
-    let helped = run.events.len() - listed;
+    let run = host_on(heap, key, blinding, inverse, sink, run, host_set);
+    let hosted = run.events.len() - listed;
     let mut run = make_all(heap, key, blinding, inverse, sink, run, rest);
     run.listed = listed;
-    run.helped = helped;
+    run.hosted = hosted;
     run
 }

@@ -3,11 +3,12 @@ use Rattle.std.proofs.Common.{◌≡◌, ℕ, ◌+◌, ◌<◌, ◌≤◌, List,
 use Rattle.std.proofs.lemmas.Bool.Decides.{nat_tests}
 use Rattle.matrix.specs.Matrix.{Mat}
 use Rattle.bits.specs.Bits.{bytes_for}
+use Rattle.bits.specs.Bytes.{laid}
 use Rattle.key.specs.declared.sizes.Sizes.{Sizes}
 use Rattle.session.specs.declared.state.Answer.{Answer}
 use Rattle.session.specs.declared.fault.SessionFault.{SessionFault}
 use Rattle.session.specs.Table.{first, refused_by, Secret, Lent, lent, blinded, product, row_in, memory_lines, frame_lines}
-use Rattle.session.specs.Answers.{Stepped, Answered, either, unless, reply_of, refusal_reply, laid, laid_unless, rows_after, phase_after, inverse_after, granted}
+use Rattle.session.specs.Answers.{Stepped, Answered, or_refusal, or_none, reply_of, refusal_reply, laid_unless, rows_after, phase_after, inverse_after, granted}
 use Rattle.session.proofs.Steps.{refused-is, granted-is, first-kept, first-after, tried-refused, tried-granted}
 
 -- memories that fit
@@ -30,7 +31,7 @@ module _ (own : Sizes) (k : Secret) (phase taken : ℕ) (inverse : List ℕ) (m 
       → Answered own k phase taken inverse m f old (record { length = 0; fault = Some e }) phase taken inverse old
   answered-unfit e q =
       let p : first (memory_lines own k.set k.order m) ≡ Some e = refused-is (first (memory_lines own k.set k.order m)) e q in
-      let w : [] ≡ reply_of own k.set k.order (product k) phase taken m f = ap (λ o. unless o (either (first (frame_lines k.set.rows (product k) phase taken f)) (granted (product k) phase taken f))) (sym p) in
+      let w : [] ≡ reply_of own k.set k.order (product k) phase taken m f = ap (λ o. or_none o (or_refusal (first (frame_lines k.set.rows (product k) phase taken f)) (granted (product k) phase taken f))) (sym p) in
       record {
         fault = sym (first-kept (memory_lines own k.set k.order m) (frame_lines k.set.rows (product k) phase taken f) e p);
         long = ap length w;
@@ -45,8 +46,8 @@ module _ (own : Sizes) (k : Secret) (phase taken : ℕ) (inverse : List ℕ) (m 
     fits = granted-is (first (memory_lines own k.set k.order m)) x passed
 
     -- the reply is that of the frame
-    reply-is : either (first (frame_lines k.set.rows (product k) phase taken f)) (granted (product k) phase taken f) ≡ reply_of own k.set k.order (product k) phase taken m f
-    reply-is = ap (λ o. unless o (either (first (frame_lines k.set.rows (product k) phase taken f)) (granted (product k) phase taken f))) (sym fits)
+    reply-is : or_refusal (first (frame_lines k.set.rows (product k) phase taken f)) (granted (product k) phase taken f) ≡ reply_of own k.set k.order (product k) phase taken m f
+    reply-is = ap (λ o. or_none o (or_refusal (first (frame_lines k.set.rows (product k) phase taken f)) (granted (product k) phase taken f))) (sym fits)
 
     -- a step that an n, R and H answer which are the secret's
     module _ (n : ℕ) (R H : Mat) (ordered : n ≡ k.set.rows) (same : R ≡ k.blinding) (whole : H ≡ k.checks) (phase' taken' : ℕ) (inverse' reply : List ℕ) where
@@ -65,8 +66,8 @@ module _ (own : Sizes) (k : Secret) (phase taken : ℕ) (inverse : List ℕ) (m 
           let none = tried-granted (first ls) r l step.result in
           record {
             fault = sym none.0 ∙ sym (first-after (memory_lines own k.set k.order m) ls fits);
-            long = none.1 ∙ ap (λ o. length (either o r)) (sym none.0) ∙ ap length reply-is;
-            bytes = step.bytes ∙ ap (λ o. laid_unless o r old) none.0 ∙ ap (λ o. laid (either o r) old) (sym none.0) ∙ ap (λ y. laid y old) reply-is;
+            long = none.1 ∙ ap (λ o. length (or_refusal o r)) (sym none.0) ∙ ap length reply-is;
+            bytes = step.bytes ∙ ap (λ o. laid_unless o r old) none.0 ∙ ap (λ o. laid (or_refusal o r) old) (sym none.0) ∙ ap (λ y. laid y old) reply-is;
             rows = step.rows ∙ ap (rows_after taken) reply-is;
             at_phase = step.at_phase ∙ ap (phase_after k.set.rows phase taken) reply-is;
             memory = step.memory ∙ ap (λ y. inverse_after k.set.rows k.blinding taken (row_in f) y inverse) reply-is;
@@ -83,8 +84,8 @@ module _ (own : Sizes) (k : Secret) (phase taken : ℕ) (inverse : List ℕ) (m 
           let kept : reply ≡ old = step.bytes ∙ ap (λ o. laid_unless o r old) some in
           record {
             fault = is-fault ∙ sym some ∙ sym (first-after (memory_lines own k.set k.order m) ls fits);
-            long = is-long ∙ ap (λ o. length (either o r)) (sym some) ∙ ap length reply-is;
-            bytes = is-told ∙ ap (laid (refusal_reply e)) kept ∙ ap (λ o. laid (either o r) old) (sym some) ∙ ap (λ y. laid y old) reply-is;
+            long = is-long ∙ ap (λ o. length (or_refusal o r)) (sym some) ∙ ap length reply-is;
+            bytes = is-told ∙ ap (laid (refusal_reply e)) kept ∙ ap (λ o. laid (or_refusal o r) old) (sym some) ∙ ap (λ y. laid y old) reply-is;
             rows = step.rows ∙ ap (rows_after taken) reply-is;
             at_phase = step.at_phase ∙ ap (phase_after k.set.rows phase taken) reply-is;
             memory = step.memory ∙ ap (λ y. inverse_after k.set.rows k.blinding taken (row_in f) y inverse) reply-is;

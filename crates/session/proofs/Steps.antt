@@ -6,7 +6,7 @@ use Rattle.bits.specs.Bits.{bytes_for}
 use Rattle.session.specs.declared.fault.SessionFault.{SessionFault}
 use Rattle.session.specs.declared.fault.SessionFault.TheVariants.{Kind, Length, Phase}
 use Rattle.session.specs.Table.{Line, line, first, refused_by, kind, index, row_in, combination_in, known, barred, frame_length, reading_lines, frame_lines, column_lines, row_lines, combination_lines}
-use Rattle.session.specs.Answers.{Stepped, tried, either, laid_unless, rows_after, phase_after, inverse_after, granted, column_reply, row_reply, combination_reply, status_reply}
+use Rattle.session.specs.Answers.{Stepped, tried, or_refusal, laid_unless, rows_after, phase_after, inverse_after, granted, column_reply, row_reply, combination_reply, status_reply}
 
 -- what a refusal tells of the lines that it came from
 pub refused-is : (o : Option SessionFault) (e : SessionFault) → Err e ≡ refused_by o → o ≡ Some e
@@ -55,16 +55,16 @@ module _ (n : ℕ) (R : Mat) (phase taken : ℕ) (inverse s old : List ℕ) (a :
   stepped-refused ls r e is f = record {
     result = f ∙ ap (λ o. tried o r) (sym is);
     bytes = ap (λ o. laid_unless o r old) (sym is);
-    rows = ap (λ o. rows_after taken (either o r)) (sym is);
-    at_phase = ap (λ o. phase_after n phase taken (either o r)) (sym is);
-    memory = ap (λ o. inverse_after n R taken s (either o r) inverse) (sym is);
+    rows = ap (λ o. rows_after taken (or_refusal o r)) (sym is);
+    at_phase = ap (λ o. phase_after n phase taken (or_refusal o r)) (sym is);
+    memory = ap (λ o. inverse_after n R taken s (or_refusal o r) inverse) (sym is);
   }
 
   -- lines that refuse alike, and equal replies
   pub stepped-as : (ls ms : List Line) (r q : List ℕ) (phase' taken' : ℕ) (inverse' reply : List ℕ) → first ms ≡ first ls → q ≡ r
       → Stepped n R ms q phase taken inverse s old a phase' taken' inverse' reply → Stepped n R ls r phase taken inverse s old a phase' taken' inverse' reply
   stepped-as ls ms r q phase' taken' inverse' reply p e x =
-      let w : either (first ms) q ≡ either (first ls) r = λ i. either (p i) (e i) in
+      let w : or_refusal (first ms) q ≡ or_refusal (first ls) r = λ i. or_refusal (p i) (e i) in
       record {
         result = x.result ∙ (λ i. tried (p i) (e i));
         bytes = x.bytes ∙ (λ i. laid_unless (p i) (e i) old);

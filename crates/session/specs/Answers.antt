@@ -1,16 +1,18 @@
 -- What one call gives and leaves. Assumes nothing.
--- word, refusal_reply, column_reply, ..   the replies
--- granted, either, unless, reply_of      which of them a frame is answered
--- laid                                  a reply in its memory
+-- word, refusal_reply, column_reply, ..    the replies
+-- granted, or_refusal, or_none, reply_of   which of them a frame is answered
+-- says                                     the kind of a reply
 -- rows_after, phase_after, inverse_after   what a reply tells of session and inverse memory
--- tried, laid_unless                     a refusal in place of a reply not yet written
--- Stepped, Answered                     one frame: in memories that fit; in any
--- public_column, Published               one publishing
-use Rattle.std.specs.Prelude.{◌≡◌, ℕ, ◌+◌, ◌*◌, ◌/◌, ◌%◌, Bool, cond, List, [], ◌∷◌, ◌++◌, length, drop, is_some, Some, None, Ok, Err, Option, Result, ◌==◌, slice_index, slice_index_or}
+-- with_row, unblinded                      a row in the inverse memory; a row times the blinding
+-- Answered                                 one frame
+-- public_column, fault_in, Published       one publishing
+-- tried, laid_unless, Stepped              what private steps promise, in memories that fit; no public contract cites them
+use Rattle.std.specs.Prelude.{◌≡◌, ℕ, ◌+◌, ◌*◌, ◌/◌, ◌%◌, Bool, cond, List, [], ◌∷◌, length, is_some, Some, None, Ok, Err, Option, Result, ◌==◌, slice_index, slice_index_or}
 use borrow.Rule.Slice.PartMut.{put_mid}
 use Rattle.galois.specs.Bit.{bits}
 use Rattle.matrix.specs.Matrix.{Mat, times, apply_row}
 use Rattle.bits.specs.Bits.{bytes_for, bits_of, of_rows, pack}
+use Rattle.bits.specs.Bytes.{laid}
 use Rattle.key.specs.declared.sizes.Sizes.{Sizes}
 use Rattle.sink.specs.Store.{Store, with_column}
 use Rattle.session.specs.declared.state.Answer.{Answer}
@@ -50,27 +52,23 @@ granted B phase taken f =
     (cond (kind f == 19) combination_reply (status_reply phase taken)))
 
 -- a reply, or the refusal in its place
-abbrev pub either : Option SessionFault → List ℕ → List ℕ
-either (Some e) r = refusal_reply e
-either None r = r
+abbrev pub or_refusal : Option SessionFault → List ℕ → List ℕ
+or_refusal (Some e) r = refusal_reply e
+or_refusal None r = r
 
 -- no reply at all where a memory does not fit
-abbrev pub unless : Option SessionFault → List ℕ → List ℕ
-unless (Some e) r = []
-unless None r = r
+abbrev pub or_none : Option SessionFault → List ℕ → List ℕ
+or_none (Some e) r = []
+or_none None r = r
 
 -- the reply to the frame f, from the sets, the blinding's size, B, phase, rows taken and the lengths of the memories
 abbrev pub reply_of : Sizes → Sizes → ℕ → List (List ℕ) → ℕ → ℕ → Lent → List ℕ → List ℕ
 reply_of own set order B phase taken m f =
-    unless (first (memory_lines own set order m)) (either (first (frame_lines set.rows B phase taken f)) (granted B phase taken f))
+    or_none (first (memory_lines own set order m)) (or_refusal (first (frame_lines set.rows B phase taken f)) (granted B phase taken f))
 
 -- the reply begins with this kind
 abbrev pub says : ℕ → List ℕ → Bool
 says k r = slice_index r 0 == k
-
--- the reply stands first, the rest is unchanged
-abbrev pub laid : List ℕ → List ℕ → List ℕ
-laid r memory = r ++ drop (length r) memory
 
 -- rows taken after a reply
 abbrev pub rows_after : ℕ → List ℕ → ℕ
@@ -106,9 +104,9 @@ laid_unless None r memory = laid r memory
 pub record Stepped (n : ℕ) (R : Mat) (ls : List Line) (r : List ℕ) (phase taken : ℕ) (inverse s lent : List ℕ) (a : Result ℕ SessionFault) (phase' taken' : ℕ) (inverse' reply : List ℕ) : Type 0 where
   pub result : a ≡ tried (first ls) r
   pub bytes : reply ≡ laid_unless (first ls) r lent
-  pub rows : taken' ≡ rows_after taken (either (first ls) r)
-  pub at_phase : phase' ≡ phase_after n phase taken (either (first ls) r)
-  pub memory : inverse' ≡ inverse_after n R taken s (either (first ls) r) inverse
+  pub rows : taken' ≡ rows_after taken (or_refusal (first ls) r)
+  pub at_phase : phase' ≡ phase_after n phase taken (or_refusal (first ls) r)
+  pub memory : inverse' ≡ inverse_after n R taken s (or_refusal (first ls) r) inverse
 
 -- what an answering gives and leaves
 pub record Answered (own : Sizes) (k : Secret) (phase taken : ℕ) (inverse : List ℕ) (m : Lent) (f lent : List ℕ) (a : Answer) (phase' taken' : ℕ) (inverse' reply : List ℕ) : Type 0 where

@@ -1,7 +1,8 @@
 -- What reading a frame gives. Assumes nothing.
--- word_of             a number from its two bytes
--- kind_number, Kinded the number of a kind, and what telling a kind from a number gives
--- Reads               what reading a frame gives
+-- What private steps promise; no public contract cites it.
+-- word_of              a number from its two bytes
+-- kind_number, Kinded  the number of a kind, and what telling a kind from a number gives
+-- Reads                what reading a frame gives
 use Rattle.std.specs.Prelude.{◌≡◌, ℕ, ◌+◌, ◌*◌, true, not, List, length, Some, Ok, Err, Result}
 use Rattle.session.specs.declared.fault.SessionFault.{SessionFault}
 use Rattle.session.specs.declared.fault.SessionFault.TheVariants as refusals

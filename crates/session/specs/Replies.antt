@@ -1,4 +1,4 @@
--- The bytes of a reply. Assumes nothing.
+-- The bytes of a reply. What private steps promise; no public contract cites it. Assumes nothing.
 use Rattle.std.specs.Prelude.{ℕ, List, [], ◌∷◌}
 use Rattle.session.specs.declared.open.Reply.{Reply}
 use Rattle.session.specs.declared.open.Reply.TheVariants.{Column, Row, Singular, Status, Refused}

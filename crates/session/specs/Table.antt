@@ -1,21 +1,22 @@
 -- The table of refusals, and B. Assumes nothing.
--- Line, line, first       a line of the table; the first one that finds its case
--- Secret, secret          key and blinding
--- blinded, product        B
--- wrong, nonzero, leading first columns at which a test of s B or v B or v fails
--- kind, index, ..         the parts of a frame
--- refused_by               a refusal as a result
--- reading_lines            reading a frame
--- column_lines, ..         a column, a row, a combination
--- frame_lines              a frame in memories that fit
--- length_lines            the lengths of the inverse memory and of working memory
--- Lent, lent, memory_lines the sizes, and the lengths of the lent memories
--- answering_lines, closing_lines, publishing_lines    the three calls
+-- Line, line, first                                  a line of the table; the first one that finds its case
+-- Secret, secret                                     key and blinding
+-- blinded, product                                   B
+-- wrong, nonzero, leading                            first columns at which a test of s B or v B or v fails
+-- kind, index, ..                                    the parts of a frame
+-- refused_by                                         a refusal as a result, for private functions
+-- reading_lines                                      reading a frame
+-- column_lines, ..                                   a column, a row, a combination
+-- barred, frame_lines                                a frame in memories that fit
+-- length_lines                                       the lengths of the inverse memory and of working memory
+-- differ, Lent, lent, memory_lines                   the sizes, and the lengths of the lent memories
+-- answering_lines, closing_lines, publishing_lines   the three calls
 use Rattle.std.specs.Prelude.{ℕ, ◌+◌, ◌*◌, Bool, cond, not, ◌&&◌, ◌||◌, List, [], ◌∷◌, ◌++◌, length, drop, Some, None, Ok, Err, Option, Result, ◌==◌, nat_lt, slice_index}
 use Rattle.galois.specs.Bit.{bits}
 use Rattle.matrix.specs.Matrix.{Mat, delta, times, apply_row}
 use Rattle.matrix.specs.Search.{least}
 use Rattle.bits.specs.Bits.{bytes_for, bits_of}
+use Rattle.bits.specs.Bytes.{word_at}
 use Rattle.bits.specs.Columns.{columns_of, entry_of}
 use Rattle.key.specs.declared.sizes.Sizes.{Sizes}
 use Rattle.sink.specs.declared.fault.SinkFault.TheVariants.{Full}
@@ -71,9 +72,9 @@ leading n v = least n (λ j. not (bits_of v j == 0))
 abbrev pub kind : List ℕ → ℕ
 kind f = slice_index f 0
 
--- the index in a frame, low byte first
+-- the index in a frame
 abbrev pub index : List ℕ → ℕ
-index f = slice_index f 1 + 256 * slice_index f 2
+index = word_at 1
 
 -- the row in a frame of kind 12
 abbrev pub row_in : List ℕ → List ℕ

@@ -3,10 +3,11 @@ ghost use Rattle.std.specs.Prelude.{◌≡◌, ℕ, ◌+◌, ◌*◌, ◌<◌, �
 ghost use Rattle.matrix.specs.Matrix.{delta};
 ghost use Rattle.matrix.specs.Search.{least};
 ghost use Rattle.bits.specs.Bits.{bytes_for, bits_of};
+ghost use Rattle.bits.specs.Bytes.{laid};
 ghost use Rattle.guard.specs.Zero.{AllZero};
 ghost use Rattle.session.specs.State.{phase_number};
 ghost use Rattle.session.specs.Table.{line, first, refused_by, secret, blinded, lent, memory_lines, frame_lines, unit_lines, combination_lines, closing_lines, row_in};
-ghost use Rattle.session.specs.Answers.{laid, granted, Stepped, Answered, column_reply, row_reply, combination_reply, status_reply, unblinded, with_row, refusal_reply};
+ghost use Rattle.session.specs.Answers.{granted, Stepped, Answered, column_reply, row_reply, combination_reply, status_reply, unblinded, with_row, refusal_reply};
 ghost use Rattle.session.specs.declared.state.Phase.TheVariants.{Receiving};
 ghost use Rattle.session.specs.declared.fault.SessionFault.TheVariants.{Wrong, Zero, Nonzero};
 ghost use Rattle.session.specs.Replies.{bytes_of};
@@ -322,6 +323,7 @@ impl Open {
         }
     }
 
+    // Answers one frame; all memory is lent.
     pub fn answer<K: Key, O: Operator>(
         &mut self,
         key: &K,
@@ -353,6 +355,7 @@ impl Open {
         }
     }
 
+    // A ready session where all rows were taken, else this one back.
     pub fn close(self) -> Result<Ready, StillOpen>
         ensures { MatchResult result (λ y. (None ≡ first (closing_lines (phase_number self.phase) self.rows)) × (y.set ≡ self.set) × (y.sent ≡ 0)) (λ e. (Some e.fault ≡ first (closing_lines (phase_number self.phase) self.rows)) × (e.session ≡ self)) }
     {

@@ -11,25 +11,18 @@ pub(crate) struct Lent {
     pub(crate) reply: usize,
 }
 
-impl Lent {
-    // Each memory a byte short.
-    fn short(self) -> Lent {
-        Lent {
-            inverse: self.inverse.saturating_sub(1),
-            working: self.working.saturating_sub(1),
-            reply: self.reply.saturating_sub(1),
-        }
-    }
-
-    // Each memory longer, by amounts of its own, so this is not `short` with another sign.
-    fn long(self) -> Lent {
-        Lent {
-            inverse: self.inverse.saturating_add(1),
-            working: self.working.saturating_add(2),
-            reply: self.reply.saturating_add(2),
-        }
-    }
+// A memory that is lent: of the length that fits, empty, a byte short, or longer. The inverse has to fit exactly;
+// working and reply memory may be longer.
+#[derive(Clone, Copy)]
+pub(crate) enum Length {
+    Fit,
+    Empty,
+    Short,
+    Long,
 }
+
+// How inverse, working and reply memory are lent.
+pub(crate) type Lending = (&'static str, Length, Length, Length);
 
 // What a session of a set is run with: its size, the count of its public columns, the bytes of a
 // vector, the lengths that fit, and the frames.
@@ -92,90 +85,40 @@ pub(crate) const PLAN20: Plan = Plan {
     claims: &CLAIMS20,
 };
 
-// Lengths for answering; the inverse has to fit exactly.
-pub(crate) fn answering(fit: Lent) -> [(&'static str, Lent); 11] {
-    let (short, long) = (fit.short(), fit.long());
-    [
-        ("right lengths", fit),
-        (
-            "longer working and reply",
-            Lent {
-                inverse: fit.inverse,
-                ..long
-            },
-        ),
-        ("inverse empty", Lent { inverse: 0, ..fit }),
-        (
-            "inverse short",
-            Lent {
-                inverse: short.inverse,
-                ..fit
-            },
-        ),
-        (
-            "inverse long",
-            Lent {
-                inverse: long.inverse,
-                ..fit
-            },
-        ),
-        ("working empty", Lent { working: 0, ..fit }),
-        (
-            "working short",
-            Lent {
-                working: short.working,
-                ..fit
-            },
-        ),
-        ("reply empty", Lent { reply: 0, ..fit }),
-        (
-            "reply short",
-            Lent {
-                reply: short.reply,
-                ..fit
-            },
-        ),
-        ("all short", short),
-        (
-            "working and reply short",
-            Lent {
-                inverse: fit.inverse,
-                ..short
-            },
-        ),
-    ]
-}
+// For answering.
+pub(crate) const ANSWERING: [Lending; 11] = [
+    ("right lengths", Length::Fit, Length::Fit, Length::Fit),
+    (
+        "longer working and reply",
+        Length::Fit,
+        Length::Long,
+        Length::Long,
+    ),
+    ("inverse empty", Length::Empty, Length::Fit, Length::Fit),
+    ("inverse short", Length::Short, Length::Fit, Length::Fit),
+    ("inverse long", Length::Long, Length::Fit, Length::Fit),
+    ("working empty", Length::Fit, Length::Empty, Length::Fit),
+    ("working short", Length::Fit, Length::Short, Length::Fit),
+    ("reply empty", Length::Fit, Length::Fit, Length::Empty),
+    ("reply short", Length::Fit, Length::Fit, Length::Short),
+    ("all short", Length::Short, Length::Short, Length::Short),
+    (
+        "working and reply short",
+        Length::Fit,
+        Length::Short,
+        Length::Short,
+    ),
+];
 
-// Lengths for publishing, which asks for no reply memory.
-pub(crate) fn publishing(fit: Lent) -> [(&'static str, Lent); 6] {
-    let (short, long) = (fit.short(), fit.long());
-    [
-        ("inverse empty", Lent { inverse: 0, ..fit }),
-        (
-            "inverse short",
-            Lent {
-                inverse: short.inverse,
-                ..fit
-            },
-        ),
-        (
-            "inverse long",
-            Lent {
-                inverse: long.inverse,
-                ..fit
-            },
-        ),
-        ("working empty", Lent { working: 0, ..fit }),
-        (
-            "working short",
-            Lent {
-                working: short.working,
-                ..fit
-            },
-        ),
-        ("both short", short),
-    ]
-}
+// For publishing, which asks for no reply memory.
+pub(crate) const PUBLISHING: [Lending; 6] = [
+    ("inverse empty", Length::Empty, Length::Fit, Length::Fit),
+    ("inverse short", Length::Short, Length::Fit, Length::Fit),
+    ("inverse long", Length::Long, Length::Fit, Length::Fit),
+    ("working empty", Length::Fit, Length::Empty, Length::Fit),
+    ("working short", Length::Fit, Length::Short, Length::Fit),
+    ("both short", Length::Short, Length::Short, Length::Fit),
+];
 
 // Refused by 14, 15, 17 to 21, on practice12 before the first row; then the status.
 const WRONG12: [Tried; 27] = [

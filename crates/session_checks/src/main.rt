@@ -5,7 +5,7 @@
 mod cases;
 
 use block::SlotKey;
-use cases::{Lent, Plan, Tried};
+use cases::{Lending, Length, Lent, Plan, Tried};
 use goppa::slot::KeySlot;
 use operator::stored::StoredMatrix;
 use refusal::Fault;
@@ -15,8 +15,8 @@ use sink::key::PackedKey;
 use std::io;
 use words::{Hex, Words};
 
-// An open session, and what it is run with; the inverse memory is a byte longer than the session asks. As in
-// other programs, each of which is read alone.
+// An open session, and what it is run with; the inverse memory is a byte longer than the session asks.
+// Other programs have a bench of their own: each is read alone.
 #[derive(Drop)]
 struct Bench<'a> {
     rt: &'a HostRuntime,
@@ -84,8 +84,8 @@ impl<'a> Bench<'a> {
 
     // The status, in memories of several lengths.
     fn lend(&mut self) -> io::Result<()> {
-        for (what, lent) in cases::answering(self.fit) {
-            self.ask_status(what, lent)?;
+        for case in cases::ANSWERING {
+            self.ask_status(case.0, lent_as(case, self.fit))?;
         }
         Ok(())
     }
@@ -170,8 +170,9 @@ impl<'a> Closed<'a> {
 
     // What is lent too short or too long.
     fn publish_short(&mut self, store: &mut PackedKey<'_>) -> io::Result<()> {
-        for (what, lent) in cases::publishing(self.plan.fit) {
-            self.publish_with(what, self.key, lent, store)?;
+        for case in cases::PUBLISHING {
+            let lent = lent_as(case, self.plan.fit);
+            self.publish_with(case.0, self.key, lent, store)?;
         }
         Ok(())
     }
@@ -222,6 +223,25 @@ impl<'a> Closed<'a> {
         self.publish_all(&mut store)?;
         read_all(rt, &store, plan)?;
         show_packed(rt, store.bytes())
+    }
+}
+
+// A memory that is to have `fit` bytes; if longer, by `more`.
+fn length_of(length: Length, fit: usize, more: usize) -> usize {
+    match length {
+        Length::Fit => fit,
+        Length::Empty => 0,
+        Length::Short => fit.saturating_sub(1),
+        Length::Long => fit.saturating_add(more),
+    }
+}
+
+fn lent_as(case: Lending, fit: Lent) -> Lent {
+    let (_, inverse, working, reply) = case;
+    Lent {
+        inverse: length_of(inverse, fit.inverse, 1),
+        working: length_of(working, fit.working, 2),
+        reply: length_of(reply, fit.reply, 2),
     }
 }
 

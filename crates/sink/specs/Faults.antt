@@ -14,7 +14,7 @@ told_sink (Full l) = refused Sinks 26 l
 told_sink (Absent j) = refused Sinks 28 j
 
 -- making
-abbrev pub told_make : MakeFault → Refusal
-told_make (Size n) = refused Sinks 6 n
-told_make Limit = refused Sinks 27 0
-told_make Memory = refused Sinks 27 1
+abbrev pub told_making : MakeFault → Refusal
+told_making (Size n) = refused Sinks 6 n
+told_making Limit = refused Sinks 27 0
+told_making Memory = refused Sinks 27 1

@@ -6,23 +6,27 @@
 -- column_at   the column that a bit of the memory is of
 -- bit_at      and which of its bits
 -- Blank       what is no bit of a column taken is 0
--- Written     one column written
+-- Written     one column written, for private functions
 use Rattle.std.specs.Prelude.{◌≡◌, ℕ, ◌*◌, ◌<◌, ◌≤◌, Bool, cond, ◌⊎◌, List, length, ◌==◌}
 use Rattle.bits.specs.Bits.{bytes_for, bits_of, of_rows, pad_bit}
 
+-- how many rows
 abbrev pub rows : Bool → ℕ → ℕ → ℕ
 rows c n l = cond c l n
 
+-- how many bits a row has
 abbrev pub width : Bool → ℕ → ℕ → ℕ
 width c n l = cond c n l
 
+-- how many bytes
 abbrev pub wanted : Bool → ℕ → ℕ → ℕ
 wanted c n l = rows c n l * bytes_for (width c n l)
 
--- of bit b of row a
+-- the column that bit b of row a is of
 abbrev pub column_at : Bool → ℕ → ℕ → ℕ
 column_at c a b = cond c a b
 
+-- and which of its bits
 abbrev pub bit_at : Bool → ℕ → ℕ → ℕ
 bit_at c a b = cond c b a
 

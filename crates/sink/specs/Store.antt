@@ -1,16 +1,15 @@
 -- What a sink holds, and what taking, reading and making do. Assumes nothing.
--- Store         size, limit, columns taken, and the memory where it is more than the columns
+-- Store          size, limit, columns taken, and the memory where it is more than the columns
 -- take_answer    what taking returns
 -- with_column    one column more
--- Taking        what taking does
+-- Taking         what taking does
 -- read_answer    what reading returns
--- Reading       what reading does
+-- Reading        what reading does
 -- book_matrix    the matrix in a column book's memory
 -- key_matrix     the matrix in a packed key's memory
 -- store_of       the store of a memory that holds a matrix
 -- matrix_in      the matrix in the memory of either sink
 -- store_in       what either sink holds
--- book_store     what a column book holds
 -- key_store      what a packed key holds
 -- book_bytes     a column book's memory, told by its store
 -- key_bytes      a packed key's memory, told by its store
@@ -80,10 +79,6 @@ matrix_in c n l xs = cond c (book_matrix n xs) (key_matrix l xs)
 -- what a memory of k columns holds
 abbrev pub store_in : Bool → ℕ → ℕ → ℕ → Bool → List ℕ → Store
 store_in c n l k wh xs = store_of n l k wh xs (matrix_in c n l xs)
-
--- what a column book holds
-abbrev pub book_store : ℕ → ℕ → ℕ → Bool → List ℕ → Store
-book_store = store_in true
 
 -- what a packed key holds
 abbrev pub key_store : ℕ → ℕ → ℕ → Bool → List ℕ → Store

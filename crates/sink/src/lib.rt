@@ -4,7 +4,7 @@
 #![tactic(auto)]
 
 ghost use Rattle.std.specs.Prelude.{◌≡◌};
-ghost use Rattle.sink.specs.Faults.{told_sink, told_make};
+ghost use Rattle.sink.specs.Faults.{told_sink, told_making};
 ghost use Rattle.sink.specs.Store.{Store, Taking, Reading};
 
 pub mod book;
@@ -18,7 +18,7 @@ use refusal::told::{Layer, Refusal};
 
 // A store for columns of `size` bits, packed; a sink from elsewhere shows the same of its own store.
 pub trait Sink {
-    // size, limit, and the columns taken
+    // size, limit, the columns taken, and the memory where it is more than these
     ghost store: { Self → Store };
 
     // How many bits a column has.
@@ -47,7 +47,7 @@ impl Fault for SinkFault {
 }
 
 impl Fault for MakeFault {
-    ghost told = { told_make };
+    ghost told = { told_making };
 
     fn refusal(self) -> Refusal {
         match self {

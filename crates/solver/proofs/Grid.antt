@@ -1,10 +1,11 @@
 -- Reads and writes of one cell, at the matrix that the cells hold. Assumes nothing.
-use Rattle.std.proofs.Common.{◌≡◌, ℕ, zero, suc, ◌+◌, ◌*◌, ◌/◌, ◌%◌, ◌^◌, ◌<◌, ◌≢◌, List, [], ◌∷◌, map, length, get_or, set, sym, refl, ap, ◌∙◌, subst, inl, inr, mod-lt, mod-eq_of_lt, arith, pow_pos}
+use Rattle.std.proofs.Common.{◌≡◌, ℕ, zero, suc, ◌+◌, ◌*◌, ◌/◌, ◌%◌, ◌^◌, ◌<◌, ◌≢◌, List, [], ◌∷◌, map, length, get_or, set, sym, refl, ap, ◌∙◌, subst, inl, inr, mod-eq_of_lt, arith, pow_pos}
 use Rattle.std.proofs.lemmas.Bool.{cases_eq}
 use Rattle.std.proofs.lemmas.List.{get_or-map, get_or-set_same, get_or-set_other, map-set, set-get_or, length-map, length-set}
 use Rattle.std.proofs.lemmas.Nat.{mul-add-lt, div-mul-add, mod-mul-add}
 use Rattle.galois.specs.Arith.{Arith}
 use Rattle.matrix.specs.Matrix.{Els}
+use Rattle.field.proofs.Cells.{low-lt}
 use Rattle.solver.specs.Cells.{element, entry, entries, Clean}
 
 same_row : (n a b i j : ℕ) → b < n → j < n → a * n + b ≡ i * n + j → a ≡ i
@@ -15,9 +16,6 @@ same-column n a b i j hb hj e = sym (mod-mul-add a n b hb) ∙ ap (λ x. x % n) 
 
 pub one-low : (F : Arith) (w : ℕ) → F.width ≡ w → 1 % 2 ^ w ≡ 1
 one-low F w e = mod-eq_of_lt (subst (λ (v : ℕ). 1 < 2 ^ v) e F.one-lt)
-
-pub low-lt : (w x : ℕ) → x % 2 ^ w < 2 ^ w
-low-lt w x = mod-lt x (pow_pos w)
 
 pub low-low : (w x : ℕ) → x % 2 ^ w % 2 ^ w ≡ x % 2 ^ w
 low-low w x = mod-eq_of_lt (low-lt w x)

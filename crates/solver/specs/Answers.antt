@@ -1,4 +1,9 @@
 -- What solving answers, for tables of sizes n and m over the field F. Assumes nothing.
+-- told_solving           how the refusal is told
+-- Fit                    tables that fit
+-- TheInverse, Vanishing  an inverse; a combination of rows that shows that there is none
+-- Solves, Solution       what is left in the second table; and in both
+-- Refused, Answer        a refusal; one solving
 use Rattle.std.specs.Prelude.{◌≡◌, ℕ, ◌*◌, ◌<◌, ◌≤◌, List, length, Ok, Err, Result}
 use Rattle.refusal.specs.Refusals.{refused}
 use Rattle.refusal.specs.declared.told.Refusal.{Refusal}
@@ -6,7 +11,7 @@ use Rattle.refusal.specs.declared.told.Layer.TheVariants.{Solving}
 use Rattle.galois.specs.Arith.{Arith}
 use Rattle.matrix.specs.Matrix.{Mat, delta, times, Same, Els, Dependent}
 use Rattle.matrix.specs.Words.{Singular}
-use Rattle.solver.specs.Cells.{limit, entries, Clean}
+use Rattle.solver.specs.Cells.{largest, entries, Clean}
 use Rattle.solver.specs.declared.Solved.{Solved}
 use Rattle.solver.specs.declared.Solved.TheVariants.{Inverse, Dependent as Vanishes}
 use Rattle.solver.specs.declared.SolveFault.{SolveFault}
@@ -19,7 +24,7 @@ told_solving (Size n) = refused Solving 29 n
 -- the two tables are n by n, with n from 1 to 1,664
 pub record Fit {X : Type 0} (n m : ℕ) (xs ys : List X) : Type 0 where
   pub some : 0 < n
-  pub few : n ≤ limit
+  pub few : n ≤ largest
   pub alike : m ≡ n
   pub first : length xs ≡ n * n
   pub second : length ys ≡ n * n
@@ -56,6 +61,7 @@ pub record Refused {X : Type 0} (n m : ℕ) (xs ys xs' ys' : List X) (k : ℕ) :
   pub first : xs' ≡ xs
   pub second : ys' ≡ ys
 
+-- what solving answers: a solution, or the refusal
 abbrev pub Answer : {X : Type 0} → Arith → ℕ → (X → ℕ) → ℕ → ℕ → List X → List X → List X → List X → Result Solved SolveFault → Type 0
 Answer F w number n m xs ys xs' ys' (Ok s) = Solution F w number n m xs ys xs' ys' s
 Answer F w number n m xs ys xs' ys' (Err (Size k)) = Refused n m xs ys xs' ys' k

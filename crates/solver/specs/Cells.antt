@@ -3,8 +3,8 @@ use Rattle.std.specs.Prelude.{ℕ, ◌+◌, ◌*◌, ◌%◌, ◌^◌, ◌<◌, 
 use Rattle.matrix.specs.Matrix.{Mat}
 
 -- the largest size of a table that can be solved
-abbrev pub limit : ℕ
-limit = 1664
+abbrev pub largest : ℕ
+largest = 1664
 
 -- the element that a cell means: the low bits of its number
 abbrev pub element : {X : Type 0} → ℕ → (X → ℕ) → X → ℕ

@@ -1,4 +1,4 @@
--- What square tables hold. Assumes nothing.
+-- What square tables hold. What private steps promise; no public contract cites it. Assumes nothing.
 use Rattle.std.specs.Prelude.{◌≡◌, ℕ}
 use Rattle.matrix.specs.Matrix.{Mat}
 use Rattle.matrix.specs.Steps.{State, Clearing}

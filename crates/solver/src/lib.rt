@@ -4,7 +4,7 @@
 #![tactic(auto)]
 
 ghost use Rattle.std.specs.Prelude.{◌≡◌, ℕ, ◌+◌, ◌*◌, ◌<◌, ◌≤◌, length, ◌≢◌, slice_index_or, MatchOption, bit_xor};
-ghost use Rattle.solver.specs.Cells.{limit, entries, Clean, element, entry};
+ghost use Rattle.solver.specs.Cells.{largest, entries, Clean, element, entry};
 ghost use Rattle.solver.specs.Answers.{Answer, Solves, told_solving};
 ghost use Rattle.matrix.specs.Matrix.{Mat, Same, delta, add_row, scale_row, swap_rows};
 
@@ -46,6 +46,7 @@ impl Fault for SolveFault {
 }
 
 impl<'a, F: Field> Table<'a, F> {
+    // A table over these cells; solving checks that they fit the size.
     pub fn new(cells: &'a mut [F::Cell], size: usize) -> Table<'a, F>
         ensures size { result.size ≡ size }
         ensures cells { result.cells.now ≡ cells.old }
@@ -75,7 +76,7 @@ impl<'a, F: Field> Table<'a, F> {
 // Eliminates the first table, with each step made in the second too, which begins as the identity.
 fn eliminate<F: Field>(first: &mut [F::Cell], second: &mut [F::Cell], n: usize) -> Solved
     requires size { (length first.old ≡ n * n) × (length second.old ≡ n * n) }
-    requires small { n ≤ limit }
+    requires small { n ≤ largest }
     ensures solves { Solves F.arith n (entries F.WIDTH F.number n first.old) (entries F.WIDTH F.number n second.new) result }
     ensures clean { Clean F.WIDTH F.number first.new × Clean F.WIDTH F.number second.new }
 {
@@ -99,7 +100,7 @@ struct Square<'a, F: Field> {
     cells: &'a mut [F::Cell],
     order: usize,
     ghost square: { length cells.now ≡ order * order },
-    ghost small: { order ≤ limit },
+    ghost small: { order ≤ largest },
     ghost clean: { Clean F.WIDTH F.number cells.now },
 }
 
@@ -109,7 +110,7 @@ impl<'a, F: Field> Square<'a, F> {
     // The table of the elements that the cells mean.
     fn cleaned(cells: &'a mut [F::Cell], order: usize) -> Square<'a, F>
         requires size { length cells.old ≡ order * order }
-        requires small { order ≤ limit }
+        requires small { order ≤ largest }
         ensures place { (result.order ≡ order) × (result.cells.ghost_name ≡ cells.entry.ghost_name) }
         ensures made { (i j : ℕ) → matrix result i j ≡ entries F.WIDTH F.number order cells.old i j }
     {
@@ -248,7 +249,7 @@ fn scale<F: Field>(row: &mut [F::Cell], s: F::Cell)
 // would then take 3 s instead of 0.5 s, measured on a Xeon at 2.5 GHz.
 fn add_scaled<F: Field>(row: &mut [F::Cell], other: &[F::Cell], s: F::Cell)
     requires alike { length row.old ≡ length other.now }
-    requires small { length other.now ≤ limit }
+    requires small { length other.now ≤ largest }
     ensures made { (k : ℕ) → k < length row.old → entry F.WIDTH F.number row.new k ≡ bit_xor (entry F.WIDTH F.number row.old k) (F.arith.mul (element F.WIDTH F.number s) (entry F.WIDTH F.number other.now k)) }
     ensures clean { Clean F.WIDTH F.number row.new }
 {

@@ -1,10 +1,10 @@
 // Refusals, each with a sentence that tells what to do.
 use refusal::Fault;
-use std::io;
+use std::fmt;
 use words::Words;
 
 // By the numbers of docs/REFUSALS.md; those that this program can meet.
-fn advice(number: u8) -> &'static str {
+fn sentence(number: u8) -> &'static str {
     match number {
         1 => "Spell the set's name as in the table of parameter sets.",
         2 => "Give a key of 2(t+n) bytes, and the set that it was made for.",
@@ -17,7 +17,25 @@ fn advice(number: u8) -> &'static str {
     }
 }
 
-pub(super) fn explain<F: Fault>(rt: &HostRuntime, what: &str, fault: F) -> io::Result<()> {
-    let number = fault.number();
-    eprintln!(rt; "{what}: {}. {}", Words::from(fault), advice(number))
+// A refusal in words, and what to do about it.
+#[derive(Clone, Copy)]
+pub(super) struct Advice {
+    words: Words,
+    number: u8,
+}
+
+impl<F: Fault> From<F> for Advice {
+    fn from(fault: F) -> Advice {
+        let number = fault.number();
+        Advice {
+            words: Words::from(fault),
+            number,
+        }
+    }
+}
+
+impl fmt::Display for Advice {
+    fn fmt<W: fmt::Write>(&self, f: &mut fmt::Formatter<W>) -> fmt::Result {
+        write!(f, "{}. {}", self.words, sentence(self.number))
+    }
 }

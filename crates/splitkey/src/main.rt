@@ -4,15 +4,21 @@
 #![tactic(auto)]
 
 mod advice;
-mod bench;
 mod check;
 mod files;
 mod make;
-mod progress;
 mod show;
 
+use check::Check;
+use make::Make;
+use show::Show;
 use std::process::ExitCode;
 use std::{env, io};
+
+// What the tool is asked; true where it was done, or where the answer is yes.
+trait Command {
+    fn run(&self, rt: &HostRuntime) -> io::Result<bool>;
+}
 
 const USAGE: &str = "\
 splitkey make SET KEY BLINDING OUT   makes the public key of KEY into OUT
@@ -29,20 +35,24 @@ fn run(rt: &HostRuntime) -> io::Result<bool> {
         words.push(word)?;
     }
     match words.get(1).map(|word| word.as_str()) {
-        Some("make") if words.len() == 6 => make::make(
-            rt,
-            words[2].as_str(),
-            words[3].as_str(),
-            words[4].as_str(),
-            words[5].as_str(),
-        ),
-        Some("check") if words.len() == 5 => check::check(
-            rt,
-            words[2].as_str(),
-            words[3].as_str(),
-            words[4].as_str(),
-        ),
-        Some("show") if words.len() == 4 => show::show(rt, words[2].as_str(), words[3].as_str()),
+        Some("make") if words.len() == 6 => Make {
+            set: words[2].as_str(),
+            key: words[3].as_str(),
+            blinding: words[4].as_str(),
+            out: words[5].as_str(),
+        }
+        .run(rt),
+        Some("check") if words.len() == 5 => Check {
+            set: words[2].as_str(),
+            key: words[3].as_str(),
+            public: words[4].as_str(),
+        }
+        .run(rt),
+        Some("show") if words.len() == 4 => Show {
+            set: words[2].as_str(),
+            key: words[3].as_str(),
+        }
+        .run(rt),
         None => {
             println!(rt; "{USAGE}")?;
             Ok(true)

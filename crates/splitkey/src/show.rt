@@ -1,6 +1,7 @@
 // What a private key file holds.
-use crate::advice::explain;
-use crate::files::load;
+use crate::Command;
+use crate::advice::Advice;
+use crate::files::Files;
 use goppa::slot::KeySlot;
 use params::find_set;
 use params::set::ParameterSet;
@@ -27,18 +28,26 @@ fn show_sizes(rt: &HostRuntime, name: &str, set: ParameterSet) -> io::Result<()>
     )
 }
 
-pub(super) fn show(rt: &HostRuntime, name: &str, path: &str) -> io::Result<bool> {
-    match find_set(name) {
-        Ok(set) => show_sizes(rt, name, set)?,
-        Err(fault) => {
-            explain(rt, name, fault)?;
+#[derive(Clone, Copy)]
+pub(super) struct Show<'a> {
+    pub(super) set: &'a str,
+    pub(super) key: &'a str,
+}
+
+impl Command for Show<'_> {
+    fn run(&self, rt: &HostRuntime) -> io::Result<bool> {
+        match find_set(self.set) {
+            Ok(set) => show_sizes(rt, self.set, set)?,
+            Err(fault) => {
+                eprintln!(rt; "{}: {}", self.set, Advice::from(fault))?;
+                return Ok(false);
+            }
+        }
+        let mut slot = KeySlot::new();
+        if !rt.load_key(&mut slot, self.set, self.key)? {
             return Ok(false);
         }
+        println!(rt; "{}: a lawful private key", self.key)?;
+        Ok(true)
     }
-    let mut slot = KeySlot::new();
-    if !load(rt, &mut slot, name, path)? {
-        return Ok(false);
-    }
-    println!(rt; "{path}: a lawful private key")?;
-    Ok(true)
 }

@@ -1,9 +1,7 @@
-// The worked examples that are run, and the published vectors: for each real set g is made anew and compared
-// with the private key's, the key is loaded, our host and the card make the public key, and every byte of it
-// is compared with the published one. The blinding is made here, dense and the same in every run.
+// The published vectors: for each real set the key is loaded, g is made anew and compared with the private key's,
+// our host and the card make the public key, and every byte of it is compared with the published one. The blinding
+// is made here, dense and the same in every run. Ends with failure where anything differs.
 #![tactic(auto)]
-
-mod examples;
 
 use audit::check;
 use audit::verdict::Verdict;
@@ -18,6 +16,7 @@ use runs::run;
 use sink::key::PackedKey;
 use std::alloc::{AllocError, Global};
 use std::cmp::Ordering;
+use std::process::ExitCode;
 use std::{fmt, fs, io};
 
 const SETS: [&str; 5] = [
@@ -93,7 +92,7 @@ fn dense(heap: Global, n: usize) -> Result<Vec<u8>, AllocError> {
 }
 
 // How bytes that were made compare with those that are published.
-#[derive(Clone, Copy)]
+#[derive(Clone, Copy, PartialEq, Eq)]
 enum Compared {
     Same,
     // the first byte that differs, or the length of the shorter
@@ -119,7 +118,7 @@ fn compare(made: &[u8], published: &[u8]) -> Compared {
 }
 
 // Makes g from the published element of degree t, and compares it with the first t entries of the key.
-fn remake(rt: &HostRuntime, name: &str, t: usize, key: &[u8]) -> anyhow::Result<()> {
+fn remake(rt: &HostRuntime, name: &str, t: usize, key: &[u8]) -> anyhow::Result<bool> {
     let heap = rt.alloc();
     let beta = fs::read(rt, format!(in heap; "{name}-0.beta")?.as_str())?;
     let mut powers = vec![in heap; 0u16; t.saturating_mul(t)]?;
@@ -127,12 +126,12 @@ fn remake(rt: &HostRuntime, name: &str, t: usize, key: &[u8]) -> anyhow::Result<
     let mut goppa = vec![in heap; 0u8; t.saturating_mul(2)]?;
     if let Err(fault) = make(name, &beta, &mut powers, &mut inverse, &mut goppa) {
         println!(rt; "{name}: no g is made, refused by {}", fault.number())?;
-        return Ok(());
+        return Ok(false);
     }
     let expected = &key[..goppa.len().min(key.len())];
     let verdict = compare(&goppa, expected);
     println!(rt; "{name}: g of degree {t} made from its element {verdict}")?;
-    Ok(())
+    Ok(verdict == Compared::Same)
 }
 
 // Frames answered with this kind of reply.
@@ -165,7 +164,12 @@ fn rest_of(heap: Global, n: usize, k: usize) -> Result<Vec<Call<'static>>, Alloc
 }
 
 // Checks the published key, and the same with the last bit of its first row turned.
-fn judge(rt: &HostRuntime, name: &str, key: &SlotKey<'_>, published: &mut [u8]) -> io::Result<()> {
+fn judge(
+    rt: &HostRuntime,
+    name: &str,
+    key: &SlotKey<'_>,
+    published: &mut [u8],
+) -> io::Result<bool> {
     let heap = rt.alloc();
     let right = check(heap, key, published)? == Verdict::Right;
     let last = key.slot.set.rest().saturating_sub(1);
@@ -178,7 +182,8 @@ fn judge(rt: &HostRuntime, name: &str, key: &SlotKey<'_>, published: &mut [u8]) 
     };
     let wrong = check(heap, key, published)? == turned;
     let verdict = if right && wrong { "ok" } else { "DIFFERS" };
-    println!(rt; "{name}: the published key found right, and wrong with a bit turned, {verdict}")
+    println!(rt; "{name}: the published key found right, and wrong with a bit turned, {verdict}")?;
+    Ok(right && wrong)
 }
 
 // Lets our host and the card make the public key, and compares it with the published one.
@@ -187,7 +192,7 @@ fn make_public(
     name: &str,
     key: &SlotKey<'_>,
     published: &[u8],
-) -> anyhow::Result<()> {
+) -> anyhow::Result<bool> {
     let heap = rt.alloc();
     let (n, k) = (key.slot.set.rows(), key.slot.set.rest());
     let rows = dense(heap, n)?;
@@ -218,10 +223,10 @@ fn make_public(
         count_published(&run.events),
         published.len()
     )?;
-    Ok(())
+    Ok(verdict == Compared::Same)
 }
 
-fn run_set(rt: &HostRuntime, name: &str) -> anyhow::Result<()> {
+fn run_set(rt: &HostRuntime, name: &str) -> anyhow::Result<bool> {
     let heap = rt.alloc();
     let bytes = fs::read(rt, format!(in heap; "{name}-0.key")?.as_str())?;
     let mut published = fs::read(rt, format!(in heap; "{name}-0.pub")?.as_str())?;
@@ -232,20 +237,24 @@ fn run_set(rt: &HostRuntime, name: &str) -> anyhow::Result<()> {
             fault.number(),
             fault.place()
         )?;
-        return Ok(());
+        return Ok(false);
     }
     println!(rt; "{name}: key loaded")?;
-    remake(rt, name, slot.set.t, &bytes)?;
+    let remade = remake(rt, name, slot.set.t, &bytes)?;
     let key = SlotKey { slot: &slot };
-    make_public(rt, name, &key, &published)?;
-    judge(rt, name, &key, &mut published)?;
-    Ok(())
+    let made = make_public(rt, name, &key, &published)?;
+    let judged = judge(rt, name, &key, &mut published)?;
+    Ok(remade && made && judged)
 }
 
-fn main(rt: HostRuntime) -> anyhow::Result<()> {
-    examples::run(&rt)?;
+fn main(rt: HostRuntime) -> anyhow::Result<ExitCode> {
+    let mut right = true;
     for name in SETS {
-        run_set(&rt, name)?;
+        right &= run_set(&rt, name)?;
     }
-    Ok(())
+    Ok(if right {
+        ExitCode::SUCCESS
+    } else {
+        ExitCode::FAILURE
+    })
 }

@@ -1,6 +1,6 @@
 use Rattle.std.proofs.Common.{ℕ, ◌<◌, subst}
 use Rattle.key.specs.declared.sizes.Sizes.{Sizes}
-use Rattle.audit.specs.Verdicts.{Padded, Clean}
+use Rattle.audit.specs.Verdicts.{Padded, Padless}
 use Rattle.audit.specs.Solving.{product}
 use Rattle.audit.proofs.Found.{is-public, belongs}
 use Rattle.audit.proofs.compare.Goals as goal
@@ -31,4 +31,4 @@ returns-in-None g c =
     let key = c.args.key.now in
     let s = g.K.Key.sizes key in
     belongs s (g.K.Key.checks key) c.args.inverse.now c.args.published.now (g.K.Key.elements key) c.requires.undoes c.requires.long c.are_bytes.ensures c.in_default.ensures
-    (subst (λ (z : Sizes). (a : ℕ) → a < z.rows → Clean z.rest c.args.published.now a) c.set-n.ensures c.in-None.ensures)
+    (subst (λ (z : Sizes). (a : ℕ) → a < z.rows → Padless z.rest c.args.published.now a) c.set-n.ensures c.in-None.ensures)

@@ -1,6 +1,6 @@
 use Rattle.std.proofs.Common.{sym, ap, ◌∙◌, arith}
 use Rattle.bits.specs.Bits.{bits_of, pack}
-use Rattle.host.specs.Frames.{bit_table, with_column}
+use Rattle.host.specs.Frames.{bit_table, with_cells}
 use Rattle.host.proofs.Tables.{column-heard}
 use Rattle.audit.proofs.load.Goals as goal
 
@@ -11,5 +11,5 @@ loop-j-preserved g c i k hi hk =
     let H = g.K.Key.checks c.args.key.now in
     let table = c.loop-j.table in
     ap (λ t. bit_table n t i k)
-    (c.keep_column.ensures ∙ ap (λ z. with_column n j n (bits_of z) table) (c.check_column.ensures ∙ ap (λ m. pack m (λ a. H a j)) (sym c.requires.size)))
+    (c.keep_column.ensures ∙ ap (λ z. with_cells n j n (bits_of z) table) (c.check_column.ensures ∙ ap (λ m. pack m (λ a. H a j)) (sym c.requires.size)))
     ∙ column-heard n j H table (g.K.Key.elements c.args.key.now) (omega arith) c.loop-j-test.true c.loop-j.invariant i k hi hk

@@ -1,5 +1,5 @@
 use lib.Bits.{bit_and}
-use Rattle.field.specs.Bits.{bit-product, bit-lt}
+use Rattle.field.proofs.Cells.{bit-product, bit-lt}
 use Rattle.field.proofs.bit_product.Goals as goal
 
 pub returns : goal.returns

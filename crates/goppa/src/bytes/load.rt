@@ -1,4 +1,4 @@
-ghost use Rattle.std.specs.Prelude.{◌≡◌};
+ghost use Rattle.std.specs.Prelude.{◌≡◌, OnErr};
 ghost use Rattle.params.specs.Sets.{numbers};
 ghost use Rattle.goppa.specs.Loading.{key_of, fresh, read_as, loaded, outcome, held};
 
@@ -39,6 +39,7 @@ impl KeySlot {
     pub fn load(&mut self, name: &str, bytes: &[u8]) -> Result<(), LoadFault>
         ensures result { result ≡ outcome (loaded name.now bytes.now) }
         ensures holds { key_of self.new ≡ held (loaded name.now bytes.now) (key_of self.old) }
+        ensures kept { OnErr result (self.new ≡ self.old) }
     {
         let set = find_set(name)?;
         self.read(set, bytes)
@@ -48,6 +49,7 @@ impl KeySlot {
     fn read(&mut self, set: ParameterSet, bytes: &[u8]) -> Result<(), LoadFault>
         ensures result { result ≡ outcome (read_as (numbers set) bytes.now) }
         ensures holds { key_of self.new ≡ held (read_as (numbers set) bytes.now) (key_of self.old) }
+        ensures kept { OnErr result (self.new ≡ self.old) }
     {
         if bytes.len() != 2 * (set.t + set.n) {
             return Err(LoadFault::Length(bytes.len()));

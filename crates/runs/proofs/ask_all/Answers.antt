@@ -5,7 +5,7 @@ use Rattle.session.specs.Table.{secret}
 use Rattle.runs.specs.declared.calls.Event.{Event}
 use Rattle.runs.specs.Runs.{Card, card, asked_in, with_columns}
 use Rattle.runs.specs.Law.{Lends}
-use Rattle.runs.proofs.Helping.{turns-some, goes-on, stops}
+use Rattle.runs.proofs.Turns.{turns-some, goes-on, stops}
 use Rattle.runs.proofs.ask_all.Goals as goal
 
 pub loop-init : goal.loop-init
@@ -18,7 +18,7 @@ loop-init g c = record {
 pub loop-preserved : goal.loop-preserved
 loop-preserved g c =
     let store = g.S.Sink.store in
-    let of : ℕ → Store → Card = λ m s. card (secret (g.K.Key.sizes c.args.key.now) (g.K.Key.checks c.args.key.now) (g.O.Operator.order c.args.blinding.now) (g.O.Operator.matrix c.args.blinding.now)) m s in
+    let of : List ℕ → Store → Card = λ m s. card (secret (g.K.Key.sizes c.args.key.now) (g.K.Key.checks c.args.key.now) (g.O.Operator.order c.args.blinding.now) (g.O.Operator.matrix c.args.blinding.now)) m s in
     let before = c.loop.invariant in
     let new = store c.ask-next.new.sink in
     let begun = c.args.run.events.items in
@@ -43,7 +43,7 @@ loop-preserved g c =
 
 pub returns-then-not-more-clause-grows : goal.returns-then-not-more-clause-grows
 returns-then-not-more-clause-grows g c =
-    let of : ℕ → Store → Card = λ m s. card (secret (g.K.Key.sizes c.args.key.now) (g.K.Key.checks c.args.key.now) (g.O.Operator.order c.args.blinding.now) (g.O.Operator.matrix c.args.blinding.now)) m s in
+    let of : List ℕ → Store → Card = λ m s. card (secret (g.K.Key.sizes c.args.key.now) (g.K.Key.checks c.args.key.now) (g.O.Operator.order c.args.blinding.now) (g.O.Operator.matrix c.args.blinding.now)) m s in
     let before = c.loop.invariant in
     let begun = c.args.run.events.items in
     let p : List Event = before.grows.0 in

@@ -18,5 +18,5 @@ returns-in-Err c k inverse store =
       λ past before.
           let e = Closed (Some c.in-Err.field-0.fault) in
           idle k past (Open c.in-Err.field-0.session) inverse store e (subst (λ o. Reached k past (Open o) inverse store) (sym told.1) before) refl
-          (before.agrees.0, told.0 ∙ (λ i. first (closing_lines (before.agrees.2 i) (before.agrees.1 i)))) refl refl,
+          (before.agrees.unclosed, told.0 ∙ (λ i. first (closing_lines (before.agrees.at_phase i) (before.agrees.rows i)))) refl refl,
     )

@@ -1,4 +1,4 @@
-use Rattle.std.proofs.Common.{◌≡◌, ℕ, ◌+◌, true, vec_len}
+use Rattle.std.proofs.Common.{◌≡◌, ℕ, ◌+◌, true, List, vec_len}
 use Rattle.sink.specs.Store.{Store}
 use Rattle.session.specs.Table.{secret}
 use Rattle.runs.specs.Runs.{Card, card, with_columns}
@@ -9,9 +9,9 @@ use Rattle.runs.proofs.make_all.Given as goal
 abbrev pub invariant-loop-call : goal.invariant-loop-call
 invariant-loop-call g l =
     let store = g.S.Sink.store in
-    let of : ℕ → Store → Card = λ m s. card (secret (g.K.Key.sizes l.key) (g.K.Key.checks l.key) (g.O.Operator.order l.blinding) (g.O.Operator.matrix l.blinding)) m s in
+    let of : List ℕ → Store → Card = λ m s. card (secret (g.K.Key.sizes l.key) (g.K.Key.checks l.key) (g.O.Operator.order l.blinding) (g.O.Operator.matrix l.blinding)) m s in
     record {
-      reached : (m : ℕ) (s : Store) → Reached (of m s) l.fn.run.events.items l.fn.run.stage l.initial.inverse (store l.initial.sink) → Reached (of m s) l.run.events.items l.run.stage l.inverse (store l.sink);
+      reached : (m : List ℕ) (s : Store) → Reached (of m s) l.fn.run.events.items l.fn.run.stage l.initial.inverse (store l.initial.sink) → Reached (of m s) l.run.events.items l.run.stage l.inverse (store l.sink);
       grows : Adds l.fn.run.events.items l.run.events.items (Makes l.calls l.call-index);
       count : vec_len l.run.events ≡ vec_len l.fn.run.events + l.call-index;
       whole : l.run.whole ≡ true;

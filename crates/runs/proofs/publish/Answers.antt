@@ -1,4 +1,4 @@
-use Rattle.std.proofs.Common.{◌≡◌, ℕ, length, Ok, Err, Option, Result, refl, ◌∙◌, sym, subst₂}
+use Rattle.std.proofs.Common.{◌≡◌, ℕ, Ok, Err, Option, Result, refl, ◌∙◌, sym, subst₂}
 use Rattle.std.specs.Result.{result_err}
 use Rattle.session.specs.declared.fault.SessionFault.{SessionFault}
 use Rattle.session.specs.Table.{secret}
@@ -13,9 +13,9 @@ fault-is (Ok x) = refl
 fault-is (Err e) = refl
 
 pub returns-clause-goes : goal.returns-clause-goes
-returns-clause-goes g c order R =
+returns-clause-goes g c order R m s =
     let store = g.S.Sink.store in
-    let k : Card = card (secret (g.K.Key.sizes c.args.key.now) (g.K.Key.checks c.args.key.now) order R) (length c.args.inverse.now) (store c.args.sink.now) in
+    let k : Card = card (secret (g.K.Key.sizes c.args.key.now) (g.K.Key.checks c.args.key.now) order R) m s in
     let y = c.args.ready.now in
     let y' = c.publish.new.self in
     let long = c.deref_mut.ensures.len ∙ c.in_ok-work.ensures.len in

@@ -1,6 +1,6 @@
 use Rattle.std.proofs.Common.{◌≡◌, ℕ, ◌<◌, length}
 use lib.Bits.{bit_xor}
-use Rattle.solver.specs.Cells.{limit, element, entry}
+use Rattle.solver.specs.Cells.{largest, element, entry}
 use Rattle.solver.proofs.Rows.{Done}
 use Rattle.solver.proofs.add_scaled.Given as goal
 
@@ -8,7 +8,7 @@ abbrev pub invariant-loop-k : goal.invariant-loop-k
 invariant-loop-k g l =
     let f = g.F.Field in
     record {
-      long : length l.copy ≡ limit;
+      long : length l.copy ≡ largest;
       made : (j : ℕ) → j < l.k → entry f.WIDTH f.number l.copy j ≡ entry f.WIDTH f.number l.other j;
     }
 
@@ -17,6 +17,6 @@ invariant-loop-j g l =
     let f = g.F.Field in
     let E = entry f.WIDTH f.number in
     record {
-      long : length l.copy ≡ limit;
+      long : length l.copy ≡ largest;
       done : Done f.WIDTH f.number (λ k. bit_xor (E l.initial.row k) (f.arith.mul (element f.WIDTH f.number l.s) (E l.copy k))) l.initial.row l.row l.j;
     }

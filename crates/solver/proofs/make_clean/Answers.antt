@@ -1,5 +1,6 @@
 use Rattle.std.proofs.Common.{◌%◌, ◌^◌, ◌<◌, length, sym, ap, ◌∙◌, subst, arith}
-use Rattle.solver.proofs.Grid.{entries-map, map-low, low-lt, cell-clean}
+use Rattle.field.proofs.Cells.{low-lt}
+use Rattle.solver.proofs.Grid.{entries-map, map-low, cell-clean}
 use Rattle.solver.proofs.make_clean.Goals as goal
 
 pub loop-x-preserved : goal.loop-x-preserved

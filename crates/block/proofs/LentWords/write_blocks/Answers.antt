@@ -2,7 +2,7 @@ use Rattle.std.proofs.Common.{◌≡◌, ℕ, ◌+◌, ◌-◌, ◌*◌, ◌/◌
 use Rattle.std.proofs.lemmas.Bool.{cases_lt}
 use Rattle.bits.specs.Bits.{byte_at, bytes_for}
 use Rattle.bits.proofs.Packs.{pack-from-bytes, get_or-pack}
-use Rattle.block.specs.Lanes.{odd}
+use Rattle.block.specs.Lanes.{parity_of}
 use Rattle.block.specs.Slots.{rows_of, column_crossed}
 use Rattle.block.proofs.Words.{part-byte, put-below, put-within}
 use Rattle.block.proofs.LentWords.write_blocks.Goals as goal
@@ -14,7 +14,7 @@ loop-b-preserved c =
     let words = c.args.self.now.words.now in
     let block = c.loop-b.b in
     let first = 32 * block / 8 in
-    let f : ℕ → ℕ = λ j. odd (column_crossed s words j) in
+    let f : ℕ → ℕ = λ j. parity_of (column_crossed s words j) in
     let count : ℕ = c.min-count.result in
     let few : count ≡ min (n - 32 * block) 32 = c.min-count.ensures ∙ ap (λ n. min (n - 32 * block) 32) c.rows-n.ensures in
     let fill : c.bytes_for.result ≡ bytes_for count = c.bytes_for.ensures in
@@ -36,5 +36,9 @@ returns c =
     let s = c.args.self.now.slot.now in
     let n = rows_of s in
     let words = c.args.self.now.words.now in
-    pack-from-bytes n (λ j. odd (column_crossed s words j)) c.loop-b.out (omega arith)
-    (λ k h. c.loop-b.invariant k (omega arith) h)
+    record {
+      written = pack-from-bytes n (λ j. parity_of (column_crossed s words j)) c.loop-b.out (omega arith) (λ k h. c.loop-b.invariant k (omega arith) h);
+      xs = c.clear.ensures.xs;
+      powers = c.clear.ensures.powers;
+      sums = c.clear.ensures.sums;
+    }

@@ -1,6 +1,7 @@
 use Rattle.std.proofs.Common.{◌+◌, ◌*◌, ◌%◌, ◌^◌, ◌<◌, length, sym, ap, ◌∙◌, subst, arith, rules}
 use Rattle.std.proofs.lemmas.Nat.{mul-add-lt}
-use Rattle.solver.proofs.Grid.{entries-set, entries-other, clean-set, entries-zero, clean-zero, low-lt, low-low, one-low}
+use Rattle.field.proofs.Cells.{low-lt}
+use Rattle.solver.proofs.Grid.{entries-set, entries-other, clean-set, entries-zero, clean-zero, low-low, one-low}
 use Rattle.solver.proofs.Loops.{unit-more}
 use Rattle.solver.proofs.Square.make_identity.Goals as goal
 

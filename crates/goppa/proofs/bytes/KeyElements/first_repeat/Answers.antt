@@ -1,5 +1,5 @@
 use Rattle.goppa.proofs.Marks.{mark-clear}
 use Rattle.goppa.proofs.bytes.KeyElements.first_repeat.Goals as goal
 
-pub find_repeat-at-requires-clause-clear : goal.find_repeat-at-requires-clause-clear
-find_repeat-at-requires-clause-clear c = mark-clear 1024
+pub first_repeat_on-requires-clause-clear : goal.first_repeat_on-requires-clause-clear
+first_repeat_on-requires-clause-clear c = mark-clear 1024

@@ -15,7 +15,7 @@ invariant_of-result c =
     let set = c.practice12-set.result in
     let passed = subst (λ s. Passed s fresh-bytes) (sym c.practice12-set.ensures) fresh-passed in
     let l = lawful (numbers set) fresh-bytes (λ k. get_or c.write_entries.new.out k 0) (λ j. get_or c.write_entries-2.new.out j 0) (λ j. get_or c.write_inverses.new.out j 0)
-    passed (λ k h. c.write_entries.ensures k (omega (arith, set.degree)) h) (λ j h. c.write_entries-2.ensures j (omega (arith, set.long)) h) c.write_inverses.ensures in
+    passed (λ k h. c.write_entries.ensures.entries k (omega (arith, set.degree)) h) (λ j h. c.write_entries-2.ensures.entries j (omega (arith, set.long)) h) c.write_inverses.ensures.inverses in
     record {
       degree = search rules;
       long = search rules;
@@ -25,11 +25,14 @@ invariant_of-result c =
       distinct = l.distinct;
       rootless = l.rootless;
       inverted = l.inverted;
+      goppa_rest = c.write_entries.ensures.rest;
+      support_rest = c.write_entries-2.ensures.rest;
+      inverses_rest = c.write_inverses.ensures.rest;
     }
 
 pub returns : goal.returns
 returns c =
     let set = c.practice12-set.result in
     key-is (numbers set) fresh-bytes c.write_entries.new.out c.write_entries-2.new.out (search rules) (search rules)
-    (λ k h. c.write_entries.ensures k (omega (arith, set.degree)) h) (λ j h. c.write_entries-2.ensures j (omega (arith, set.long)) h)
+    (λ k h. c.write_entries.ensures.entries k (omega (arith, set.degree)) h) (λ j h. c.write_entries-2.ensures.entries j (omega (arith, set.long)) h)
     ∙ ap (λ s. key_in s fresh-bytes) c.practice12-set.ensures

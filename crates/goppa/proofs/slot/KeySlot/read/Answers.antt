@@ -20,7 +20,7 @@ invariant_of-self c =
       nonzero = sym c.first_root.ensures ∙ c.in_default-first_root.is;
     } in
     let l = lawful (numbers set) bs (λ k. get_or c.write_entries.new.out k 0) (λ j. get_or c.write_entries-2.new.out j 0) (λ j. get_or c.write_inverses.new.out j 0)
-    passed (λ k h. c.write_entries.ensures k (omega (arith, set.degree, c.args.self.now.degree)) h) (λ j h. c.write_entries-2.ensures j (omega (arith, set.long, c.args.self.now.long)) h) c.write_inverses.ensures in
+    passed (λ k h. c.write_entries.ensures.entries k (omega (arith, set.degree, c.args.self.now.degree)) h) (λ j h. c.write_entries-2.ensures.entries j (omega (arith, set.long, c.args.self.now.long)) h) c.write_inverses.ensures.inverses in
     record {
       degree = search rules;
       long = search rules;
@@ -30,6 +30,9 @@ invariant_of-self c =
       distinct = l.distinct;
       rootless = l.rootless;
       inverted = l.inverted;
+      goppa_rest = c.write_entries.ensures.rest;
+      support_rest = c.write_entries-2.ensures.rest;
+      inverses_rest = c.write_inverses.ensures.rest;
     }
 
 pub returns : goal.returns
@@ -45,6 +48,7 @@ returns c =
     record {
       result = sym (ap outcome ok);
       holds = key-is (numbers set) bs c.write_entries.new.out c.write_entries-2.new.out (search rules) (search rules)
-          (λ k h. c.write_entries.ensures k (omega (arith, set.degree, c.args.self.now.degree)) h) (λ j h. c.write_entries-2.ensures j (omega (arith, set.long, c.args.self.now.long)) h)
+          (λ k h. c.write_entries.ensures.entries k (omega (arith, set.degree, c.args.self.now.degree)) h) (λ j h. c.write_entries-2.ensures.entries j (omega (arith, set.long, c.args.self.now.long)) h)
           ∙ sym (ap (λ r. held r (key_of c.args.self.now)) ok);
+      kept = tt;
     }
