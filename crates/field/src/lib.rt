@@ -90,7 +90,7 @@ impl Reduction {
 }
 
 // A field of numbers below 2^WIDTH, the polynomials over the bits modulo REDUCER.
-pub trait Field {
+pub trait Field: Copy {
     // a cell of a table: it holds a number, and means the element of its low bits
     type Cell: Copy;
 
@@ -196,6 +196,7 @@ fn bit_product(a: u8, b: u8) -> u8
 }
 
 // The bits: modulo z + 1.
+#[derive(Clone, Copy)]
 pub struct Bit;
 
 impl Field for Bit {
@@ -234,7 +235,7 @@ impl Field for Bit {
 
 // A polynomial over the bits with no factors, of degree WIDTH: bit i of REDUCER is its term z^i.
 // An impl is the data of one polynomial: its laws are computed of it, which they are not of a const parameter.
-pub trait Modulus {
+pub trait Modulus: Copy {
     const WIDTH: u32;
 
     ghost WIDTH: { ℕ };
@@ -250,6 +251,7 @@ pub trait Modulus {
 }
 
 // z^4 + z + 1
+#[derive(Clone, Copy)]
 pub struct Degree4;
 
 impl Modulus for Degree4 {
@@ -267,6 +269,7 @@ impl Modulus for Degree4 {
 }
 
 // z^5 + z^2 + 1
+#[derive(Clone, Copy)]
 pub struct Degree5;
 
 impl Modulus for Degree5 {
@@ -284,6 +287,7 @@ impl Modulus for Degree5 {
 }
 
 // z^12 + z^3 + 1
+#[derive(Clone, Copy)]
 pub struct Degree12;
 
 impl Modulus for Degree12 {
@@ -301,6 +305,7 @@ impl Modulus for Degree12 {
 }
 
 // z^13 + z^4 + z^3 + z + 1
+#[derive(Clone, Copy)]
 pub struct Degree13;
 
 impl Modulus for Degree13 {
@@ -318,6 +323,7 @@ impl Modulus for Degree13 {
 }
 
 // The field modulo P, with cells of 16 bits.
+#[derive(Clone, Copy)]
 pub struct Gf<P> {
     modulus: PhantomData<P>,
 }
