@@ -53,8 +53,14 @@ impl KeyBytes<'_> {
         ensures entries { (k : ℕ) → k < length out.old → k < count → slice_index out.new k ≡ entry_in self.now.bytes.now (at + k) }
         ensures rest { ZeroFrom count out.new }
     {
+        out.fill(0);
+        // Left at the last entry: a walk through all cells of a slot takes ten times as long for a small set,
+        // and after `take` a proof knows of no number k.
         for (k, x) in out.iter_mut().enumerate() {
-            *x = if k < count { self.entry(at + k) } else { 0 };
+            if k == count {
+                break;
+            }
+            *x = self.entry(at + k);
         }
     }
 }
@@ -189,11 +195,12 @@ fn invert_values<F: Field>(g: &InField<F>, out: &mut [u16])
     ensures rest { ZeroFrom g.now.elements.key.set.n out.new }
 {
     let elements = g.elements;
+    out.fill(0);
+    // left at the last place, as above
     for (j, y) in out.iter_mut().enumerate() {
-        *y = if j < elements.key.set.n {
-            F::invert(g.value_at(elements.point(j)))
-        } else {
-            0
-        };
+        if j == elements.key.set.n {
+            break;
+        }
+        *y = F::invert(g.value_at(elements.point(j)));
     }
 }

@@ -8,5 +8,6 @@ abbrev pub invariant-loop-j : goal.invariant-loop-j
 invariant-loop-j g l =
     let s = l.g.elements.key.set in
     let bs = l.g.elements.key.bytes.now in
-    ((k : ℕ) → k < l.j → k < s.n → get_or l.out k 0 ≡ inverse_of s.m s.f (value s.m s.f s.t (entry_in bs) (support_in s.t bs k)))
-    × ((k : ℕ) → k < l.j → s.n ≤ k → get_or l.out k 0 ≡ 0)
+    ((k : ℕ) → k < l.j → get_or l.out k 0 ≡ inverse_of s.m s.f (value s.m s.f s.t (entry_in bs) (support_in s.t bs k)))
+    × ((k : ℕ) → l.j ≤ k → get_or l.out k 0 ≡ 0)
+    × (l.j ≤ s.n)

@@ -4,5 +4,6 @@ use Rattle.goppa.proofs.bytes.KeyBytes.write_entries.Given as goal
 
 abbrev pub invariant-loop-k : goal.invariant-loop-k
 invariant-loop-k l =
-    ((k : ℕ) → k < l.k → k < l.count → get_or l.out k 0 ≡ entry_in l.self.bytes.now (l.at + k))
-    × ((k : ℕ) → k < l.k → l.count ≤ k → get_or l.out k 0 ≡ 0)
+    ((k : ℕ) → k < l.k → get_or l.out k 0 ≡ entry_in l.self.bytes.now (l.at + k))
+    × ((k : ℕ) → l.k ≤ k → get_or l.out k 0 ≡ 0)
+    × (l.k ≤ l.count)
