@@ -1,7 +1,6 @@
 -- Unit rows by bytes, and columns that are right. Assumes nothing.
 use Rattle.std.proofs.Common.{◌≡◌, ℕ, ◌+◌, ◌*◌, ◌/◌, ◌%◌, ◌^◌, ◌<◌, ◌≤◌, true, not, eqb, Option, Some, None, MatchOption, List, get_or, sym, refl, ap, ◌∙◌, inl, inr, arith}
 use Rattle.std.proofs.lemmas.Bool.{cases_lt, cases_eq, eq-eqb, ne_eqb, eqb-true, cond-true, cond-false}
-use Rattle.std.specs.Option.{unwrap_or}
 use Rattle.matrix.specs.Matrix.{delta}
 use Rattle.matrix.specs.Search.{found}
 use Rattle.matrix.proofs.Searches.{found-is, found-none}
@@ -59,11 +58,3 @@ first-found xs n i from (Some j) before h = found-is n j _ h.1 (λ k l. elim (ca
   | inl b ↦ ap not (eq-eqb (bits_of xs k) (delta i k) (before k b))
   | inr b ↦ ap not (eq-eqb (bits_of xs k) (delta i k) (h.3 k b l))
 ]) (ap not (ne_eqb (bits_of xs j) (delta i j) h.2))
-
--- the bytes before the first wrong one, of n, have their columns right
-pub before-wrong : (xs : List ℕ) (n i : ℕ) (r : Option ℕ)
-    → MatchOption r ((k : ℕ) → 0 ≤ k → k < n → get_or xs k 0 ≡ unit_byte i k)
-    (λ j. (0 ≤ j) × (j < n) × (get_or xs j 0 ≡ unit_byte i j → ⊥) × ((k : ℕ) → 0 ≤ k → k < j → get_or xs k 0 ≡ unit_byte i k))
-    → (k : ℕ) → k < 8 * unwrap_or r n → bits_of xs k ≡ delta i k
-before-wrong xs n i None h k l = byte-right xs i (k / 8) k (h (k / 8) (omega arith) (omega arith)) refl
-before-wrong xs n i (Some j) h k l = byte-right xs i (k / 8) k (h.3 (k / 8) (omega arith) (omega arith)) refl

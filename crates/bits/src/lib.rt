@@ -162,9 +162,13 @@ fn right_bytes(v: &[u8], n: usize, i: usize) -> usize
     ensures within { result ≤ n }
     ensures right { (k : ℕ) → k < 8 * result → bits_of v.now k ≡ delta i k }
 {
-    (0..n)
-        .find(|j| byte_of(v, *j) != unit_byte(i, *j))
-        .unwrap_or(n)
+    // a loop: by `find`, a search takes twice as long
+    for j in 0..n {
+        if byte_of(v, j) != unit_byte(i, j) {
+            return j;
+        }
+    }
+    n
 }
 
 // The first of n columns in which v is not unit row i; unit row n is zero.

@@ -1,14 +1,12 @@
-use Rattle.std.proofs.Common.{◌≡◌, ◌*◌, ◌<◌, get_or, subst, tests, rules}
-use Rattle.std.proofs.lemmas.Iterator.{first_from_Range}
-use Rattle.bits.specs.Bits.{unit_byte}
-use Rattle.bits.proofs.Units.{before-wrong}
+use Rattle.std.proofs.Common.{◌*◌, sym, ◌∙◌, inl, inr, arith}
+use Rattle.std.proofs.lemmas.Bool.{cases_lt}
+use Rattle.bits.proofs.Units.{byte-right}
 use Rattle.bits.proofs.right_bytes.Goals as goal
 
-pub returns-clause-right : goal.returns-clause-right
-returns-clause-right c k h =
-    let v = c.args.v.now in
-    let i = c.args.i in
-    before-wrong v c.args.n i c.find.result
-    (first_from_Range _ _ _ _ (λ j. get_or v j 0 ≡ unit_byte i j → ⊥) (λ j. get_or v j 0 ≡ unit_byte i j) c.find.ensures.ran
-    (λ x q k. search (rules, tests)) (λ x q k. search (rules, tests)))
-    k (subst (λ m. k < 8 * m) c.unwrap_or.ensures h)
+pub loop-j-preserved : goal.loop-j-preserved
+loop-j-preserved c k h =
+    let j = c.loop-j.j in
+    elim (cases_lt k (8 * j)) [
+      | inl l ↦ c.loop-j.invariant k l
+      | inr l ↦ byte-right c.args.v.now c.args.i j k (sym c.byte_of.ensures ∙ c.if-byte_of-unit_byte.false ∙ c.unit_byte.ensures) (omega arith)
+    ]
