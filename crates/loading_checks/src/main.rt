@@ -7,7 +7,6 @@ use block::SlotKey;
 use cases::{CASES, Case, KEY12, KEY20, KEYS, Published};
 use goppa::slot::KeySlot;
 use key::Key;
-use std::alloc::{AllocError, Global};
 use std::{fs, io};
 use words::{Hex, Words};
 
@@ -96,71 +95,84 @@ fn load_practice(rt: &HostRuntime, slot: &mut KeySlot) -> anyhow::Result<()> {
     show_columns(rt, slot)
 }
 
-// The entries of a key, two bytes each, the low one first.
-fn entries_of(heap: Global, key: &[u8]) -> Result<Vec<u16>, AllocError> {
-    let (pairs, _) = key.as_chunks::<2>();
-    pairs
-        .iter()
-        .map(|pair| u16::from_le_bytes(*pair))
-        .collect(heap)
-}
-
-// A published key by its entries, and the slot that it is loaded into.
+// A published key, and the slot that it is loaded into. A change is made in the key's own bytes, and
+// taken back, so that what is loaded has the length of the file, whatever that is.
 #[derive(Drop)]
 struct Bench<'a> {
     rt: &'a HostRuntime,
     slot: &'a mut KeySlot,
     name: &'static str,
-    entries: Vec<u16>,
+    key: Vec<u8>,
 }
 
 impl Bench<'_> {
-    fn load(&mut self, what: &str, entries: &[u16]) -> anyhow::Result<()> {
-        let mut key = Vec::new(self.rt.alloc());
-        for entry in entries {
-            key.extend_from_slice(&entry.to_le_bytes())?;
+    fn load(&mut self, what: &str) -> io::Result<()> {
+        load(self.rt, self.slot, what, self.name, &self.key)
+    }
+
+    // One byte, 0 where there is none.
+    fn byte(&self, place: usize) -> u8 {
+        self.key.get(place).copied().unwrap_or(0)
+    }
+
+    // The two bytes of an entry.
+    fn entry(&self, at: usize) -> [u8; 2] {
+        let low = at.saturating_mul(2);
+        [self.byte(low), self.byte(low.saturating_add(1))]
+    }
+
+    // Overwrites an entry, as far as its bytes are there.
+    fn put(&mut self, at: usize, entry: [u8; 2]) {
+        for (place, byte) in (at.saturating_mul(2)..).zip(entry) {
+            if let Some(b) = self.key.get_mut(place) {
+                *b = byte;
+            }
         }
-        load(self.rt, self.slot, what, self.name, &key)?;
+    }
+
+    // Loads the key with one entry changed.
+    fn load_with(&mut self, what: &str, at: usize, entry: [u8; 2]) -> io::Result<()> {
+        let was = self.entry(at);
+        self.put(at, entry);
+        self.load(what)?;
+        self.put(at, was);
         Ok(())
     }
 
     // The high byte of an entry set to FF.
     fn enlarge(&mut self, at: usize) -> anyhow::Result<()> {
-        let mut entries = self.entries.clone()?;
-        if let Some(entry) = entries.get_mut(at) {
-            *entry |= 0xff00;
-        }
+        let [low, _] = self.entry(at);
         let what = format!(in self.rt.alloc(); "the high byte of entry {at} is FF")?;
-        self.load(what.as_str(), &entries)
+        self.load_with(what.as_str(), at, [low, 0xff])?;
+        Ok(())
     }
 
     // An entry overwritten by the one before.
     fn repeat(&mut self, at: usize) -> anyhow::Result<()> {
-        let mut entries = self.entries.clone()?;
         let before = at.saturating_sub(1);
-        if at < entries.len() {
-            entries[at] = entries[before];
-        }
         let what = format!(in self.rt.alloc(); "entry {at} is entry {before}")?;
-        self.load(what.as_str(), &entries)
+        self.load_with(what.as_str(), at, self.entry(before))?;
+        Ok(())
     }
 
-    // All coefficients 0: g = x^t, with the one root 0.
+    // All coefficients 0, and they stay so: g = x^t, with the one root 0.
     fn power(&mut self, t: usize) -> anyhow::Result<()> {
         let heap = self.rt.alloc();
-        let mut entries = self.entries.clone()?;
-        let coefficients = t.min(entries.len());
-        entries[..coefficients].fill(0);
+        for at in 0..t {
+            self.put(at, [0, 0]);
+        }
+        let (entries, _) = self.key.as_slice().as_chunks::<2>();
         let zero = entries
             .iter()
             .enumerate()
             .skip(t)
-            .find(|(_, entry)| **entry == 0);
+            .find(|(_, entry)| **entry == [0, 0]);
         let what = match zero {
             Some((at, _)) => format!(in heap; "g = x^{t}, entry {at} is 0")?,
             None => format!(in heap; "g = x^{t}, no support entry is 0")?,
         };
-        self.load(what.as_str(), &entries)
+        self.load(what.as_str())?;
+        Ok(())
     }
 }
 
@@ -169,19 +181,17 @@ fn try_key(rt: &HostRuntime, slot: &mut KeySlot, one: Published) -> anyhow::Resu
     let key = fs::read(rt, format!(in rt.alloc(); "{name}-0.key")?.as_str())?;
     println!(rt; "{name}")?;
     load(rt, slot, "whole", name, &key)?;
-    if let Some((_, less)) = key.split_last() {
-        load(rt, slot, "one byte less", name, less)?;
-    }
-    let entries = entries_of(rt.alloc(), &key)?;
+    let less = key.len().saturating_sub(1);
+    load(rt, slot, "one byte less", name, &key[..less])?;
     let mut bench = Bench {
         rt,
         slot,
         name,
-        entries,
+        key,
     };
     bench.enlarge(one.large)?;
     bench.repeat(one.copied)?;
-    load(rt, bench.slot, "whole again", name, &key)?;
+    bench.load("whole again")?;
     bench.power(one.t)
 }
 

@@ -15,7 +15,15 @@ use sink::key::PackedKey;
 use std::io;
 use words::{Hex, Words};
 
-// An open session, and what it is run with; the inverse memory is a byte longer than the session asks.
+// Memories as long as the longest case lends, so that nothing is left to fail for want of memory: the
+// inverse (a byte longer than practice20 asks), working and reply memory, rows of a packed key.
+const INVERSE: usize = 31;
+
+const LENT: usize = 8;
+
+const ROWS: usize = 15;
+
+// An open session, and what it is run with.
 // Other programs have a bench of their own: each is read alone.
 #[derive(Drop)]
 struct Bench<'a> {
@@ -23,43 +31,38 @@ struct Bench<'a> {
     key: SlotKey<'a>,
     blinding: StoredMatrix<'a>,
     session: Open,
-    inverse: Vec<u8>,
+    inverse: [u8; INVERSE],
     fit: Lent,
 }
 
 impl<'a> Bench<'a> {
-    fn new(
-        rt: &'a HostRuntime,
-        plan: &Plan,
-        key: SlotKey<'a>,
-        rows: &'a [u8],
-    ) -> io::Result<Bench<'a>> {
-        Ok(Bench {
+    fn new(rt: &'a HostRuntime, plan: &Plan, key: SlotKey<'a>, rows: &'a [u8]) -> Bench<'a> {
+        Bench {
             rt,
             key,
             blinding: StoredMatrix::new(plan.size, rows),
             session: Open::new(&key),
-            inverse: vec![in rt.alloc(); 0u8; plan.fit.inverse.saturating_add(1)]?,
+            inverse: [0; INVERSE],
             fit: plan.fit,
-        })
+        }
     }
 
     // One frame in memories of the lengths told, and what it is answered.
     fn exchange(&mut self, what: &str, lent: Lent, frame: &[u8]) -> io::Result<()> {
-        let mut working = vec![in self.rt.alloc(); 0xa5u8; lent.working]?;
-        let mut memory = vec![in self.rt.alloc(); 0xa5u8; lent.reply]?;
-        let Some(inverse) = self.inverse.as_mut_slice().get_mut(..lent.inverse) else {
+        let (mut working, mut memory) = ([0xa5; LENT], [0xa5; LENT]);
+        let Some(working) = working.get_mut(..lent.working) else {
             return Ok(());
         };
-        let answer = self.session.answer(
-            &self.key,
-            &self.blinding,
-            inverse,
-            &mut working,
-            frame,
-            &mut memory,
-        );
-        if !is_zero(&working) {
+        let Some(memory) = memory.get_mut(..lent.reply) else {
+            return Ok(());
+        };
+        let Some(inverse) = self.inverse.get_mut(..lent.inverse) else {
+            return Ok(());
+        };
+        let answer = self
+            .session
+            .answer(&self.key, &self.blinding, inverse, working, frame, memory);
+        if !is_zero(working) {
             println!(self.rt; "  working memory NOT CLEARED")?;
         }
         let sent = Hex { bytes: frame };
@@ -102,7 +105,6 @@ impl<'a> Bench<'a> {
         let (own, one) = (self.blinding, StoredMatrix::new(0, &[]));
         let mut stranger = Bench {
             session: Open::new(&other),
-            inverse: self.inverse.clone()?,
             ..*self
         };
         stranger.ask_status("session of the other set", self.fit)?;
@@ -139,7 +141,7 @@ struct Closed<'a> {
     key: SlotKey<'a>,
     other: SlotKey<'a>,
     ready: Ready,
-    inverse: Vec<u8>,
+    inverse: [u8; INVERSE],
 }
 
 impl<'a> Closed<'a> {
@@ -152,13 +154,16 @@ impl<'a> Closed<'a> {
         store: &mut PackedKey<'_>,
     ) -> io::Result<()> {
         // wrong lengths are the cases, so a length says what is lent
-        let mut working = vec![in self.rt.alloc(); 0xa5u8; lent.working]?;
+        let mut working = [0xa5; LENT];
+        let Some(working) = working.get_mut(..lent.working) else {
+            return Ok(());
+        };
         let Some(inverse) = self.inverse.get(..lent.inverse) else {
             return Ok(());
         };
-        let published = self.ready.publish(&key, inverse, &mut working, store);
+        let published = self.ready.publish(&key, inverse, working, store);
         print!(self.rt; "  publishing, {what}: ")?;
-        if !is_zero(&working) {
+        if !is_zero(working) {
             print!(self.rt; "working memory NOT CLEARED, ")?;
         }
         tell(self.rt, published.err())
@@ -189,11 +194,15 @@ impl<'a> Closed<'a> {
 
     // A sink with room for one column, and that taken.
     fn publish_full(&mut self) -> io::Result<()> {
-        let heap = self.rt.alloc();
-        let mut memory = vec![in heap; 0u8; self.plan.size]?;
-        let column = vec![in heap; 0u8; self.plan.bytes]?;
-        let mut full = PackedKey::new(&mut memory, self.plan.size, 1);
-        let _ = full.take(&column);
+        let (mut memory, column) = ([0; ROWS], [0; LENT]);
+        let Some(memory) = memory.get_mut(..self.plan.size) else {
+            return Ok(());
+        };
+        let Some(column) = column.get(..self.plan.bytes) else {
+            return Ok(());
+        };
+        let mut full = PackedKey::new(memory, self.plan.size, 1);
+        let _ = full.take(column);
         self.publish("full sink", &mut full)
     }
 
@@ -217,8 +226,11 @@ impl<'a> Closed<'a> {
 
     fn run(&mut self) -> io::Result<()> {
         let (rt, plan) = (self.rt, self.plan);
-        let mut memory = vec![in rt.alloc(); 0u8; plan.size]?;
-        let mut store = PackedKey::new(&mut memory, plan.size, plan.rest);
+        let mut memory = [0; ROWS];
+        let Some(memory) = memory.get_mut(..plan.size) else {
+            return Ok(());
+        };
+        let mut store = PackedKey::new(memory, plan.size, plan.rest);
         self.publish_nothing(&mut store)?;
         self.publish_all(&mut store)?;
         read_all(rt, &store, plan)?;
@@ -266,9 +278,12 @@ fn show_packed(rt: &HostRuntime, bytes: &[u8]) -> io::Result<()> {
 
 // Column j in memory of a length.
 fn read(rt: &HostRuntime, store: &PackedKey<'_>, j: usize, length: usize) -> io::Result<()> {
-    let mut out = vec![in rt.alloc(); 0u8; length]?;
-    let done = store.read(j, &mut out);
-    let column = Hex { bytes: &out };
+    let mut memory = [0; LENT];
+    let Some(out) = memory.get_mut(..length) else {
+        return Ok(());
+    };
+    let done = store.read(j, out);
+    let column = Hex { bytes: out };
     print!(rt; "  reading column {j}: [{column}], ")?;
     tell(rt, done.err())
 }
@@ -288,7 +303,7 @@ fn read_all(rt: &HostRuntime, store: &PackedKey<'_>, plan: &Plan) -> io::Result<
 
 // A session whose B has no inverse: phase 2.
 fn singular(rt: &HostRuntime, plan: &Plan, key: SlotKey<'_>) -> io::Result<()> {
-    let mut bench = Bench::new(rt, plan, key, plan.singular)?;
+    let mut bench = Bench::new(rt, plan, key, plan.singular);
     bench.play(plan.claims)?;
     bench.play(plan.late)?;
     let _ = bench.close_early()?;
@@ -301,7 +316,7 @@ fn run(rt: &HostRuntime, plan: &Plan, key: SlotKey<'_>, other: SlotKey<'_>) -> i
     let name = plan.name;
     println!(rt; "{name}")?;
     singular(rt, plan, key)?;
-    let mut bench = Bench::new(rt, plan, key, plan.blinding)?;
+    let mut bench = Bench::new(rt, plan, key, plan.blinding);
     bench.refuse_sizes(other)?;
     bench.lend()?;
     bench.ask_columns(plan.columns)?;
@@ -336,9 +351,12 @@ fn run(rt: &HostRuntime, plan: &Plan, key: SlotKey<'_>, other: SlotKey<'_>) -> i
 fn check_all(rt: &HostRuntime) -> io::Result<()> {
     println!(rt; "making a packed key")?;
     for (what, length, size, limit) in cases::MAKES {
-        let memory = vec![in rt.alloc(); 0u8; length]?;
-        print!(rt; "  {what}: ")?;
-        tell(rt, PackedKey::check(&memory, size, limit).err())?;
+        // long enough for each of them
+        let memory = [0; 30];
+        if let Some(part) = memory.get(..length) {
+            print!(rt; "  {what}: ")?;
+            tell(rt, PackedKey::check(part, size, limit).err())?;
+        }
     }
     Ok(())
 }
